@@ -1,0 +1,41 @@
+-- What a sign, an exponent's field and digits are read as, in any format. Assumes nothing.
+use Prim.Native.Nat.{ℕ, zero, suc, _+_, _-_, _*_, _/_, _%_, _^_}
+use mathlib.Core.Path.{_≡_, refl, sym, ap, _∙_}
+use mathlib.Core.Bool.{Bool, true, false, cond}
+use native.Mathlib.Omega.{arith}
+use lib.Dec.{leb, eqb}
+use lib.Ieee.{Float, nan, inf, fin, odd}
+use borrow.Author.Tests.{eq-eqb, ne-eqb}
+use Rattle.rounding.specs.Kind.{Kind, least}
+use Rattle.rounding.specs.Bits.{hidden, full, signed, ofBits, ofFields}
+
+pub read : (k : Kind) (b : ℕ) → ofBits k b ≡ ofFields k (leb (signed k) b) (b % signed k / hidden k) (b % hidden k)
+unfolding ofBits
+read k b = refl
+
+module _ (k : Kind) (s : Bool) where
+  pub fields-low : (x t : ℕ) → x ≡ 0 → ofFields k s x t ≡ odd (k .digits) s t 0 (least k)
+  unfolding ofFields
+  fields-low zero t e = refl
+  fields-low (suc x) t e = absurd (omega arith)
+
+  pub fields-mid : (x t : ℕ) → (x ≡ 0 → ⊥) → (x ≡ full k → ⊥) → ofFields k s x t ≡ odd (k .digits) s (hidden k + t) (x - 1) (least k)
+  unfolding ofFields
+  fields-mid zero t a b = absurd (a refl)
+  fields-mid (suc x) t a b =
+      ap (λ (e : Bool). cond e (cond (eqb t 0) (inf s) nan) (odd (k .digits) s (hidden k + t) x (least k))) (ne-eqb (suc x) (full k) b)
+      ∙ ap (λ (y : ℕ). odd (k .digits) s (hidden k + t) y (least k)) (pred x)
+    where
+      pred : (x : ℕ) → x ≡ suc x - 1
+      pred x = omega arith
+
+  full-at : (x t : ℕ) → x ≡ full k → ofFields k s x t ≡ cond (eqb t 0) (inf s) nan
+  unfolding ofFields
+  full-at zero t e = absurd (omega arith)
+  full-at (suc x) t e = ap (λ (y : Bool). cond y (cond (eqb t 0) (inf s) nan) (odd (k .digits) s (hidden k + t) x (least k))) (eq-eqb (suc x) (full k) e)
+
+  pub fields-inf : (x t : ℕ) → x ≡ full k → t ≡ 0 → ofFields k s x t ≡ inf s
+  fields-inf x t e z = full-at x t e ∙ ap (λ (y : Bool). cond y (inf s) nan) (eq-eqb t 0 z)
+
+  pub fields-nan : (x t : ℕ) → x ≡ full k → (t ≡ 0 → ⊥) → ofFields k s x t ≡ nan
+  fields-nan x t e z = full-at x t e ∙ ap (λ (y : Bool). cond y (inf s) nan) (ne-eqb t 0 z)

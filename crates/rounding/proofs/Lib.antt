@@ -1,0 +1,15 @@
+pub mod Same
+pub mod Nan
+pub mod Fields
+pub mod Digits
+pub mod Units
+pub mod Finite
+pub mod Cut
+pub mod Pack
+pub mod Width
+pub mod Back
+pub mod Normal
+pub mod FromDouble
+pub mod Magnitude
+pub mod Integer
+pub mod Exact

@@ -1,0 +1,34 @@
+use Prim.Native.Nat.{ℕ, _+_, _*_, min}
+use mathlib.Core.Path.{_≡_, sym, ap, _∙_}
+use mathlib.Core.Bool.{cond}
+use borrow.Author.Needs.{needs}
+use Rattle.rounding.specs.Kind.{kind}
+use Rattle.rounding.specs.Bits.{signed, full, hidden}
+use Rattle.rounding.proofs.Pack.{round-bits}
+use Rattle.rounding.proofs.narrow.whole_bits.Statement.{statement}
+use Rattle.rounding.proofs.narrow.whole_bits.Tie as tie
+
+add-packed : tie.Need-add-packed
+add-packed c = search needs
+
+sub-packed : tie.Need-sub-packed
+sub-packed c = search needs
+
+packed-requires : tie.Need-packed-requires
+packed-requires c κs = search needs
+
+signed-bits-requires : tie.Need-signed-bits-requires
+signed-bits-requires c κs = search needs
+
+returns : tie.Need-returns
+returns c =
+    let s = c .before .before in
+    let g = s .args in
+    let k = kind (g .digits) (g .reach) in
+    c .signed-bits .ensures
+    ∙ ap (λ (x : ℕ). cond (g .neg) (signed k) 0 + min x (full k * hidden k)) (c .before .packed .ensures)
+    ∙ sym (round-bits k (record { two = s .pre .0; one = s .pre .2 }) (g .neg) (g .n) 1)
+
+pub whole-bits-spec : {M : Type 1} → statement M
+whole-bits-spec =
+    tie.close (tie.spec add-packed sub-packed packed-requires signed-bits-requires returns)

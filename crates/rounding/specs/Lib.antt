@@ -1,0 +1,5 @@
+pub mod Kind
+pub mod Arithmetic
+pub mod Bits
+pub mod Nearest
+pub mod Pack
