@@ -44,38 +44,46 @@ Whole p j q = (j ≡ 0) ⊎ (2 ^ (p - 1) ≤ q)
 abbrev pub field : ℕ → ℕ → ℕ
 field p n = (size n - p) * 2 ^ (p - 1) + n / 2 ^ (size n - p)
 
-field-at : (p n j : ℕ) → size n - p ≡ j → field p n ≡ j * 2 ^ (p - 1) + n / 2 ^ j
-field-at p n j e = ap (λ (x : ℕ). x * 2 ^ (p - 1) + n / 2 ^ x) e
+-- how q * 2 ^ j is written with p digits: as it stands, or, all ones and one more, as the next power of two
+abbrev pub Written : ℕ → ℕ → ℕ → Type 0
+Written p q j =
+    ((size (q * 2 ^ j) - p ≡ j) × (q * 2 ^ j / 2 ^ j ≡ q) × (q < 2 ^ p))
+    ⊎ ((q ≡ 2 * 2 ^ (p - 1)) × (size (q * 2 ^ j) - p ≡ suc j) × (q * 2 ^ j / 2 ^ suc j ≡ 2 ^ (p - 1)) × (q * 2 ^ j ≡ 2 ^ (p - 1) * 2 ^ suc j))
 
-pub packed : (p q j : ℕ) → 0 < p → q ≤ 2 ^ p → Whole p j q → field p (q * 2 ^ j) ≡ j * 2 ^ (p - 1) + q
-packed p q j P l w = go (eq-or-lt-of-le l) w
+pub written : (p q j : ℕ) → 0 < p → q ≤ 2 ^ p → Whole p j q → Written p q j
+written p q j P l w = go (eq-or-lt-of-le l) w
   where
     h : ℕ
     h = 2 ^ (p - 1)
 
-    -- all ones and one more: the next power of two
-    carry : q ≡ 2 ^ p → field p (q * 2 ^ j) ≡ j * h + q
-    carry e =
+    pred : (p : ℕ) → 0 < p → p - 1 < p
+    pred p h = omega arith
+
+    go : (q ≡ 2 ^ p) ⊎ (q < 2 ^ p) → (j ≡ 0) ⊎ (h ≤ q) → Written p q j
+    go (inl e) w =
         let n : q * 2 ^ j ≡ h * 2 ^ suc j = ap (λ (x : ℕ). x * 2 ^ j) (e ∙ twice p P ∙ mul-comm 2 h) ∙ mul-assoc h 2 (2 ^ j) ∙ ap (λ (x : ℕ). h * x) (sym (pow-succ' 2 j)) in
-        let z : size (q * 2 ^ j) - p ≡ suc j =
-        ap (λ (x : ℕ). size x - p) n ∙ size-full p (suc j) (h * 2 ^ suc j) P (le-of-eq (pow-add 2 (p - 1) (suc j))) (shl-lt p (suc j) (pow-lt (pred p P))) in
-        field-at p (q * 2 ^ j) (suc j) z
-        ∙ ap (λ (x : ℕ). suc j * h + x) (ap (λ (x : ℕ). x / 2 ^ suc j) n ∙ mul-div-cancel h (pow-pos (suc j)))
-        ∙ join (suc j * h) (j * h) h q (suc-mul j h) (e ∙ twice p P)
-      where
-        pred : (p : ℕ) → 0 < p → p - 1 < p
-        pred p h = omega arith
-
-        join : (a b h q : ℕ) → a ≡ b + h → q ≡ 2 * h → a + h ≡ b + q
-        join a b h q e f = omega arith
-
-    go : (q ≡ 2 ^ p) ⊎ (q < 2 ^ p) → (j ≡ 0) ⊎ (h ≤ q) → field p (q * 2 ^ j) ≡ j * h + q
-    go (inl e) w = carry e
+        inr (
+          e ∙ twice p P,
+          ap (λ (x : ℕ). size x - p) n ∙ size-full p (suc j) (h * 2 ^ suc j) P (le-of-eq (pow-add 2 (p - 1) (suc j))) (shl-lt p (suc j) (pow-lt (pred p P))),
+          ap (λ (x : ℕ). x / 2 ^ suc j) n ∙ mul-div-cancel h (pow-pos (suc j)),
+          n,
+        )
     go (inr s) (inl z) =
         let one : q * 2 ^ j ≡ q = ap (λ (x : ℕ). q * 2 ^ x) z ∙ mul-one q in
-        field-at p (q * 2 ^ j) 0 (ap (λ (x : ℕ). size x - p) one ∙ size-few p q s)
-        ∙ ap (λ (x : ℕ). 0 * h + x) (div-one (q * 2 ^ j) ∙ one)
-        ∙ ap (λ (x : ℕ). x * h + q) (sym z)
+        inl (ap (λ (x : ℕ). size x - p) one ∙ size-few p q s ∙ sym z, mul-div-cancel q (pow-pos j), s)
     go (inr s) (inr a) =
-        field-at p (q * 2 ^ j) j (size-full p j (q * 2 ^ j) P (le-trans (le-of-eq (pow-add 2 (p - 1) j)) (mul-le-mul-right (2 ^ j) a)) (shl-lt p j s))
-        ∙ ap (λ (x : ℕ). j * h + x) (mul-div-cancel q (pow-pos j))
+        inl (size-full p j (q * 2 ^ j) P (le-trans (le-of-eq (pow-add 2 (p - 1) j)) (mul-le-mul-right (2 ^ j) a)) (shl-lt p j s), mul-div-cancel q (pow-pos j), s)
+
+field-at : (p n j : ℕ) → size n - p ≡ j → field p n ≡ j * 2 ^ (p - 1) + n / 2 ^ j
+field-at p n j e = ap (λ (x : ℕ). x * 2 ^ (p - 1) + n / 2 ^ x) e
+
+pub packed : (p q j : ℕ) → 0 < p → q ≤ 2 ^ p → Whole p j q → field p (q * 2 ^ j) ≡ j * 2 ^ (p - 1) + q
+packed p q j P l w = go (written p q j P l w)
+  where
+    join : (a b h q : ℕ) → a ≡ b + h → q ≡ 2 * h → a + h ≡ b + q
+    join a b h q e f = omega arith
+
+    go : Written p q j → field p (q * 2 ^ j) ≡ j * 2 ^ (p - 1) + q
+    go (inl (z, e, s)) = field-at p (q * 2 ^ j) j z ∙ ap (λ (x : ℕ). j * 2 ^ (p - 1) + x) e
+    go (inr (t, z, e, n)) =
+        field-at p (q * 2 ^ j) (suc j) z ∙ ap (λ (x : ℕ). suc j * 2 ^ (p - 1) + x) e ∙ join (suc j * 2 ^ (p - 1)) (j * 2 ^ (p - 1)) (2 ^ (p - 1)) q (suc-mul j (2 ^ (p - 1))) t

@@ -1,11 +1,14 @@
 pub mod Same
+pub mod Single
 pub mod Nan
 pub mod Fields
 pub mod Digits
 pub mod Units
 pub mod Finite
 pub mod Cut
+pub mod Closest
 pub mod Pack
+pub mod Nearest
 pub mod Width
 pub mod Back
 pub mod Normal

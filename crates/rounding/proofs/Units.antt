@@ -39,11 +39,11 @@ odd-finite d s (suc q) j l = refl
 abbrev over : Kind → ℕ
 over k = 2 ^ (least k + suc (k .reach))
 
-units-in : (k : Kind) (s : Bool) (q j : ℕ) → ltb (q * 2 ^ j) (over k) ≡ true → unitsIn k s q j ≡ odd (suc (k .digits)) s q j (least k)
+pub units-in : (k : Kind) (s : Bool) (q j : ℕ) → ltb (q * 2 ^ j) (over k) ≡ true → unitsIn k s q j ≡ odd (suc (k .digits)) s q j (least k)
 unfolding unitsIn
 units-in k s q j e = ap (λ (b : Bool). cond b (odd (suc (k .digits)) s q j (least k)) (inf s)) e
 
-units-out : (k : Kind) (s : Bool) (q j : ℕ) → ltb (q * 2 ^ j) (over k) ≡ false → unitsIn k s q j ≡ inf s
+pub units-out : (k : Kind) (s : Bool) (q j : ℕ) → ltb (q * 2 ^ j) (over k) ≡ false → unitsIn k s q j ≡ inf s
 unfolding unitsIn
 units-out k s q j e = ap (λ (b : Bool). cond b (odd (suc (k .digits)) s q j (least k)) (inf s)) e
 

@@ -94,7 +94,7 @@ fn magnitude(n: i64) -> u64
 
 // The bits of x rounded once to F16.
 pub fn f64_to_half(x: f64) -> u16
-    ensures { λ r. ⌜ r ≡ toBits half (convert half x) ⌝ }
+    ensures once { λ r. ⌜ r ≡ toBits half (convert half x) ⌝ }
 {
     narrow_bits(patterns::f64_bits(x), 11, 15) as u16
 }

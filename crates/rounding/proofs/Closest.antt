@@ -1,0 +1,94 @@
+-- `closest n d`, n / d to a whole number: none is nearer, and of two as near it is the even one. Assumes nothing.
+use Prim.Native.Nat.{ℕ, zero, suc, _+_, _-_, _*_, _/_, _%_, _≤_, _<_}
+use mathlib.Core.Path.{_≡_, refl, sym, ap, _∙_, subst}
+use mathlib.Core.Bool.{Bool, true, false, not}
+use mathlib.Core.Logic.{_⊎_, inl, inr}
+use native.Mathlib.Nat.{eq-or-lt-of-le, eq-zero-or-pos, mod-lt, mul-le-mul-right, suc-mul, div-add-mod'}
+use native.Mathlib.Omega.{arith}
+use lib.Dec.{T, ltb, ltb→lt, nltb→le}
+use lib.Ieee.Nearest.{closest}
+use Rattle.rounding.specs.Nearest.{apart}
+use Rattle.rounding.proofs.Cut.{rounds-down, rounds-even, rounds-up}
+
+pub le-or-lt : (a b : ℕ) → (a ≤ b) ⊎ (b < a)
+le-or-lt a b = go (ltb b a) (ltb→lt b a) (nltb→le b a)
+  where
+    go : (t : Bool) → (T t → b < a) → (T (not t) → a ≤ b) → (a ≤ b) ⊎ (b < a)
+    go true h k = inr (h tt)
+    go false h k = inl (k tt)
+
+-- of n = f * d + r: q is f or the next number, by where r lies, and even where r is half of d
+abbrev pub Side : ℕ → ℕ → ℕ → ℕ → Type 0
+Side f r d q = ((q ≡ f) × (r * 2 ≤ d) × (r * 2 ≡ d → q % 2 ≡ 0)) ⊎ ((q ≡ suc f) × (d ≤ r * 2) × (r * 2 ≡ d → q % 2 ≡ 0))
+
+pub side : (n d : ℕ) → 0 < d → Side (n / d) (n % d) d (closest n d)
+side n d D = go (le-or-lt d (n % d * 2))
+  where
+    lower : (r d q f : ℕ) → r * 2 < d → q ≡ f → Side f r d q
+    lower r d q f l e = inl (e, omega arith, λ t. absurd (omega arith))
+
+    upper : (r d q f : ℕ) → d < r * 2 → q ≡ suc f → Side f r d q
+    upper r d q f l e = inr (e, omega arith, λ t. absurd (omega arith))
+
+    tie : (r d q f : ℕ) → r * 2 ≡ d → q ≡ f + f % 2 → Side f r d q
+    tie r d q f t e =
+        elim (eq-zero-or-pos (f % 2)) [
+          | inl z ↦ inl (omega arith, omega arith, λ h. omega arith)
+          | inr z ↦ inr (omega arith, omega arith, λ h. omega arith)
+        ]
+
+    go : (d ≤ n % d * 2) ⊎ (n % d * 2 < d) → Side (n / d) (n % d) d (closest n d)
+    go (inr l) = lower (n % d) d (closest n d) (n / d) l (rounds-down (n / d) (n % d * 2) d l)
+    go (inl h) =
+        elim (eq-or-lt-of-le h) [
+          | inl e ↦ tie (n % d) d (closest n d) (n / d) (sym e) (rounds-even (n / d) (n % d * 2) d (sym e))
+          | inr l ↦ upper (n % d) d (closest n d) (n / d) l (rounds-up (n / d) (n % d * 2) d l)
+        ]
+
+module _ (n d f r q : ℕ) (e : f * d + r ≡ n) (l : r < d) (at : Side f r d q) where
+  -- q * d is at most half of d away from n
+  half-away : (2 * n ≤ 2 * (q * d) + d) × (2 * (q * d) ≤ 2 * n + d)
+  half-away = go at
+    where
+      go : Side f r d q → (2 * n ≤ 2 * (q * d) + d) × (2 * (q * d) ≤ 2 * n + d)
+      go (inl (s, h, t)) = let a : q * d ≡ f * d = ap (λ (x : ℕ). x * d) s in (omega arith, omega arith)
+      go (inr (s, h, t)) = let a : q * d ≡ f * d + d = ap (λ (x : ℕ). x * d) s ∙ suc-mul f d in (omega arith, omega arith)
+
+  near-at : (w : ℕ) → apart (q * d) n ≤ apart (w * d) n
+  near-at w = go at (le-or-lt w f)
+    where
+      go : Side f r d q → (w ≤ f) ⊎ (f < w) → apart (q * d) n ≤ apart (w * d) n
+      go (inl (s, h, t)) (inl b) = let a : q * d ≡ f * d = ap (λ (x : ℕ). x * d) s in omega (arith, mul-le-mul-right d b)
+      go (inl (s, h, t)) (inr b) = let a : q * d ≡ f * d = ap (λ (x : ℕ). x * d) s in omega (arith, mul-le-mul-right d b, suc-mul f d)
+      go (inr (s, h, t)) (inl b) = let a : q * d ≡ f * d + d = ap (λ (x : ℕ). x * d) s ∙ suc-mul f d in omega (arith, mul-le-mul-right d b)
+      go (inr (s, h, t)) (inr b) = let a : q * d ≡ f * d + d = ap (λ (x : ℕ). x * d) s ∙ suc-mul f d in omega (arith, mul-le-mul-right d b, suc-mul f d)
+
+  -- a w below f, or above the number after f, is a whole d further away
+  tie-at : (w : ℕ) → apart (w * d) n ≡ apart (q * d) n → (w ≡ q) ⊎ (q % 2 ≡ 0)
+  tie-at w g = go at (le-or-lt w f)
+    where
+      go : Side f r d q → (w ≤ f) ⊎ (f < w) → (w ≡ q) ⊎ (q % 2 ≡ 0)
+      go (inl (s, h, t)) (inl b) =
+          let a : q * d ≡ f * d = ap (λ (x : ℕ). x * d) s in
+          elim (eq-or-lt-of-le b) [
+            | inl o ↦ inl (o ∙ sym s)
+            | inr o ↦ absurd (omega (arith, mul-le-mul-right d o, suc-mul w d))
+          ]
+      go (inl (s, h, t)) (inr b) = let a : q * d ≡ f * d = ap (λ (x : ℕ). x * d) s in inr (t (omega (arith, mul-le-mul-right d b, suc-mul f d)))
+      go (inr (s, h, t)) (inl b) = let a : q * d ≡ f * d + d = ap (λ (x : ℕ). x * d) s ∙ suc-mul f d in inr (t (omega (arith, mul-le-mul-right d b)))
+      go (inr (s, h, t)) (inr b) =
+          let a : q * d ≡ f * d + d = ap (λ (x : ℕ). x * d) s ∙ suc-mul f d in
+          elim (eq-or-lt-of-le b) [
+            | inl o ↦ inl (sym o ∙ sym s)
+            | inr o ↦ absurd (omega (arith, mul-le-mul-right d o, suc-mul (suc f) d, suc-mul f d))
+          ]
+
+module _ (n d : ℕ) (D : 0 < d) where
+  pub near : (w : ℕ) → apart (closest n d * d) n ≤ apart (w * d) n
+  near = near-at n d (n / d) (n % d) (closest n d) (div-add-mod' n d) (mod-lt n D) (side n d D)
+
+  pub even-at-tie : (w : ℕ) → apart (w * d) n ≡ apart (closest n d * d) n → (w ≡ closest n d) ⊎ (closest n d % 2 ≡ 0)
+  even-at-tie = tie-at n d (n / d) (n % d) (closest n d) (div-add-mod' n d) (mod-lt n D) (side n d D)
+
+  pub within-half : (2 * n ≤ 2 * (closest n d * d) + d) × (2 * (closest n d * d) ≤ 2 * n + d)
+  within-half = half-away n d (n / d) (n % d) (closest n d) (div-add-mod' n d) (mod-lt n D) (side n d D)
