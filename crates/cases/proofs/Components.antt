@@ -1,0 +1,30 @@
+-- The components of an operand, one after another.
+use mathlib.Core.Path.{_≡_, sym, ap, _∙_}
+use mathlib.Core.List.{List}
+use Prim.Native.Nat.{ℕ, _+_, _*_, _≤_, _<_}
+use native.Mathlib.Omega.{arith}
+use native.Mathlib.Numerals.{add-one}
+use borrow.Author.Tests.{lt-ltb, le-ltb}
+use lib.ListN.{length, take, drop, getD, set}
+use lib.Seq.{take-suc-set, take-all}
+use Rattle.cases.specs.Field.{eight}
+use Rattle.cases.specs.Operands.{componentIn, tab}
+
+-- one number more
+pub tab-more : (f : ℕ → ℕ) (xs : List ℕ) (i v : ℕ) → i < length xs → take i xs ≡ tab f i → v ≡ f i → take (i + 1) (set xs i v) ≡ tab f (i + 1)
+unfolding tab
+tab-more f xs i v h e q = rw (add-one i, q) (take-suc-set xs i (f i) h ∙ rw e)
+
+-- all of them
+pub tab-all : (f : ℕ → ℕ) (xs : List ℕ) (i : ℕ) → length xs ≡ 16 → i ≡ 16 → take i xs ≡ tab f i → xs ≡ tab f 16
+tab-all f xs i l e q = sym (take-all i xs (omega arith)) ∙ q ∙ ap (tab f) e
+
+-- a component that the operand has, and one that it lacks
+module _ (s : List ℕ) (i b r : ℕ) (e : b ≡ getD s 3 0) where
+  pub given : (p : List ℕ) → i < b → p ≡ take 8 (drop (4 + 8 * i) s) → r ≡ eight p → r ≡ componentIn s i
+  unfolding componentIn
+  given p h q t = rw (← e, lt-ltb i b h, ← q) t
+
+  pub lacking : b ≤ i → r ≡ 0 → r ≡ componentIn s i
+  unfolding componentIn
+  lacking h t = rw (← e, le-ltb i b h) t

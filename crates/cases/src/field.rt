@@ -1,0 +1,58 @@
+// Fields of a record. A byte past its end reads as 0, so that no place needs a proof.
+ghost use mathlib.Core.Path.{_≡_};
+ghost use Prim.Native.Nat.{_<_};
+ghost use lib.ListN.{getD, take, drop};
+ghost use Rattle.cases.specs.Field.{four, eight};
+
+// The byte at a place.
+pub fn byte(s: &[u8], at: usize) -> u8
+    ensures { λ r. ⌜ r ≡ getD (now (s .entry)) at 0 ⌝ }
+{
+    if at < s.len() { s[at] } else { 0 }
+}
+
+fn wide(s: &[u8], at: usize) -> u64
+    ensures { λ r. ⌜ (r ≡ getD (now (s .entry)) at 0) × (r < 256) ⌝ }
+{
+    byte(s, at) as u64
+}
+
+fn low_four(s: &[u8]) -> u64
+    ensures { λ r. ⌜ (r ≡ four (now (s .entry)) 0) × (r < 4294967296) ⌝ }
+{
+    wide(s, 0) + 256 * (wide(s, 1) + 256 * (wide(s, 2) + 256 * wide(s, 3)))
+}
+
+fn high_four(s: &[u8]) -> u64
+    ensures { λ r. ⌜ (r ≡ four (now (s .entry)) 4) × (r < 4294967296) ⌝ }
+{
+    wide(s, 4) + 256 * (wide(s, 5) + 256 * (wide(s, 6) + 256 * wide(s, 7)))
+}
+
+// The number in the four bytes at a place, low byte first.
+pub fn word(s: &[u8], at: usize) -> u32
+    ensures { λ r. ⌜ r ≡ four (take 4 (drop at (now (s .entry)))) 0 ⌝ }
+{
+    low_four(part(s, at, 4)) as u32
+}
+
+// The number in the first eight bytes, low byte first.
+pub fn number(s: &[u8]) -> u64
+    ensures { λ r. ⌜ r ≡ eight (now (s .entry)) ⌝ }
+{
+    low_four(s) + 0x1_0000_0000 * high_four(s)
+}
+
+// The n bytes at a place, or those of them that are there.
+pub fn part(s: &[u8], at: usize, n: usize) -> &[u8]
+    ensures { λ r. ⌜ now r ≡ take n (drop at (now (s .entry))) ⌝ }
+{
+    if s.len() <= at {
+        return &s[0..0];
+    }
+    if s.len() - at <= n {
+        return &s[at..];
+    }
+    let e = at + n;
+    &s[at..e]
+}
