@@ -25,6 +25,8 @@ use Rattle.integer.proofs.patterns.not_i64.Kinds as patterns-not-i64-ki
 use Rattle.integer.proofs.patterns.not_i64.Reads as patterns-not-i64-reads
 use Rattle.integer.proofs.patterns.not_u32.Kinds as patterns-not-u32-kinds
 use Rattle.integer.proofs.patterns.not_u32.Reads as patterns-not-u32-reads
+use Rattle.integer.proofs.patterns.size_i64.Kinds as patterns-size-i64-kinds
+use Rattle.integer.proofs.patterns.size_i64.Reads as patterns-size-i64-reads
 use Rattle.integer.proofs.quotient.div_i32.Kinds as quotient-div-i32-kinds
 use Rattle.integer.proofs.quotient.div_i32.Reads as quotient-div-i32-reads
 use Rattle.integer.proofs.quotient.rem_i32.Kinds as quotient-rem-i32-kinds
@@ -174,3 +176,6 @@ wrapping-neg-i32 κs a x y s t p q = p ∙ sym q
 
 pub wrapping-neg-i64 : OneResult 0 wrapping-neg-i64-kinds.ps wrapping-neg-i64-kinds.r wrapping-neg-i64-reads.Post
 wrapping-neg-i64 κs a x y s t p q = p ∙ sym q
+
+pub patterns-size-i64 : OneResult 0 patterns-size-i64-kinds.ps patterns-size-i64-kinds.r patterns-size-i64-reads.Post
+patterns-size-i64 κs a x y s t p q = p ∙ sym q

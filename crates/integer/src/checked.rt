@@ -1,9 +1,10 @@
 // Exact sums, differences and products of 64 bits, with an own test of overflow.
 use crate::Whole;
+use crate::patterns;
 ghost use mathlib.Core.Path.{_≡_};
 ghost use mathlib.Core.Bool.{not};
 ghost use Prim.Native.Nat.{_*_};
-ghost use lib.IntN.{natAbs, _+ℤ_, _-ℤ_, _*ℤ_};
+ghost use lib.IntN.{_+ℤ_, _-ℤ_, _*ℤ_};
 ghost use mir.Syntax.{w64};
 ghost use Rattle.integer.specs.Range.{wholeOf, inSigned, inUnsigned};
 ghost use Rattle.integer.specs.Size.{signedBy};
@@ -35,19 +36,12 @@ pub fn sub_i64(x: i64, y: i64) -> Whole
 pub fn mul_i64(x: i64, y: i64) -> Whole
     ensures { λ r. ⌜ r ≡ wholeOf (x *ℤ y) ⌝ }
 {
-    let a = size(x);
-    let b = size(y);
+    let a = patterns::size_i64(x);
+    let b = patterns::size_i64(y);
     if product_over(a, b) {
         return Whole::Over;
     }
     with_sign((x < 0) != (y < 0), a * b)
-}
-
-// x without its sign.
-fn size(x: i64) -> u64
-    ensures { λ r. ⌜ r ≡ natAbs x ⌝ }
-{
-    if x < 0 { ((!x) as u64) + 1 } else { x as u64 }
 }
 
 // Whether 64 bits do not hold x + y.

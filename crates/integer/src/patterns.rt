@@ -1,5 +1,6 @@
 // A signed integer and its bits, as an unsigned integer of the same width.
 ghost use mathlib.Core.Path.{_≡_};
+ghost use lib.IntN.{natAbs};
 ghost use mir.Syntax.{w32, w64};
 ghost use mir.Val.{toZ, ofZ};
 ghost use Rattle.integer.specs.Wrap.{notZ, notU};
@@ -59,4 +60,11 @@ pub fn not_u32(x: u32) -> u32
     ensures { λ r. ⌜ r ≡ notU w32 x ⌝ }
 {
     !x
+}
+
+// How far x is from 0.
+pub fn size_i64(x: i64) -> u64
+    ensures { λ r. ⌜ r ≡ natAbs x ⌝ }
+{
+    if x < 0 { ((!x) as u64) + 1 } else { x as u64 }
 }

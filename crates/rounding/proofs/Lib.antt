@@ -13,6 +13,5 @@ pub mod Width
 pub mod Back
 pub mod Normal
 pub mod FromDouble
-pub mod Magnitude
 pub mod Integer
 pub mod Exact

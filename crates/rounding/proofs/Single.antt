@@ -1,10 +1,6 @@
 -- Each public contract permits one outcome for each call. Assumes nothing.
-use mathlib.Core.Path.{_≡_, sym, _∙_}
-use mathlib.Core.List.{List}
-use Prim.Native.Nat.{ℕ}
-use contract.Lifetimes.{Lfts}
-use denote.Triple.Clauses.{AtExit}
-use borrow.Fn.Kinds.{PK, RK, Out, Dens, resT, endedOf}
+use mathlib.Core.Path.{sym, _∙_}
+use Rattle.integer.proofs.Single.{OneResult}
 use Rattle.rounding.proofs.places.round_whole.Kinds as round-whole-kinds
 use Rattle.rounding.proofs.places.round_whole.Reads as round-whole-reads
 use Rattle.rounding.proofs.patterns.f32_bits.Kinds as f32-bits-kinds
@@ -35,10 +31,6 @@ use Rattle.rounding.proofs.narrow.i64_to_f32.Kinds as i64-to-f32-kinds
 use Rattle.rounding.proofs.narrow.i64_to_f32.Reads as i64-to-f32-reads
 use Rattle.rounding.proofs.narrow.i64_to_f64.Kinds as i64-to-f64-kinds
 use Rattle.rounding.proofs.narrow.i64_to_f64.Reads as i64-to-f64-reads
-
--- what a function may ensure leaves one result for each call
-abbrev pub OneResult : (n : ℕ) (ps : List (PK n)) (r : RK n) → Out n ps r → Type 0
-OneResult n ps r P = (κs : Lfts n) (a : Dens κs ps) (x y : resT r κs .Denot) (s t : AtExit (endedOf n ps r) κs) → P κs a x s → P κs a y t → x ≡ y
 
 pub round-whole-one : OneResult 0 round-whole-kinds.ps round-whole-kinds.r round-whole-reads.Post
 round-whole-one κs a x y s t p q = p ∙ sym q

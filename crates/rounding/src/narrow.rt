@@ -4,7 +4,6 @@ use crate::places;
 ghost use mathlib.Core.Path.{_≡_};
 ghost use Prim.Native.Nat.{_+_, _*_, _^_, _<_, _≤_, min};
 ghost use mathlib.Core.Bool.{cond};
-ghost use lib.IntN.{natAbs};
 ghost use lib.Ieee as Ieee;
 ghost use Rattle.rounding.specs.Kind.{kind, half, single, double, roundTo, convert, ofInteger};
 ghost use Rattle.rounding.specs.Bits.{full, hidden, signed, toBits, ofBits};
@@ -85,13 +84,6 @@ fn whole_bits(neg: bool, n: u64, digits: u64, reach: u64) -> u64
     signed_bits(neg, packed(n, reach + digits - 2, 0, digits), digits, reach)
 }
 
-// How far n is from 0.
-fn magnitude(n: i64) -> u64
-    ensures { λ r. ⌜ r ≡ natAbs n ⌝ }
-{
-    if n < 0 { ((!n) as u64) + 1 } else { n as u64 }
-}
-
 // The bits of x rounded once to F16.
 pub fn f64_to_half(x: f64) -> u16
     ensures once { λ r. ⌜ r ≡ toBits half (convert half x) ⌝ }
@@ -117,14 +109,14 @@ pub fn f32_to_half(x: f32) -> u16
 pub fn i64_to_half(n: i64) -> u16
     ensures { λ r. ⌜ r ≡ toBits half (ofInteger half n) ⌝ }
 {
-    whole_bits(n < 0, magnitude(n), 11, 15) as u16
+    whole_bits(n < 0, integer::patterns::size_i64(n), 11, 15) as u16
 }
 
 // n rounded once to F32.
 pub fn i64_to_f32(n: i64) -> f32
     ensures { λ r. ⌜ r ≡ ofInteger single n ⌝ }
 {
-    patterns::f32_of_bits(whole_bits(n < 0, magnitude(n), 24, 127) as u32)
+    patterns::f32_of_bits(whole_bits(n < 0, integer::patterns::size_i64(n), 24, 127) as u32)
 }
 
 // n rounded once to F64.

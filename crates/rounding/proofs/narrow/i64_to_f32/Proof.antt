@@ -11,10 +11,10 @@ use Rattle.rounding.proofs.narrow.i64_to_f32.Statement.{statement}
 use Rattle.rounding.proofs.narrow.i64_to_f32.Tie as tie
 
 bits : (c : tie.After-whole-bits) → c .whole-bits .result ≡ toBits single (ofInteger single (c .before .before .args .n))
-bits c = integer-bits single (c .before .before .args .n) (c .before .before .fits .n) (c .before .magnitude .ensures) (c .whole-bits .ensures)
+bits c = integer-bits single (c .before .before .args .n) (c .before .before .fits .n) (c .before .size-i64 .ensures) (c .whole-bits .ensures)
 
-magnitude-requires : tie.Need-magnitude-requires
-magnitude-requires c κs = search needs
+size-i64-requires : tie.Need-size-i64-requires
+size-i64-requires c κs = search needs
 
 whole-bits-requires : tie.Need-whole-bits-requires
 whole-bits-requires c κs = search needs
@@ -31,4 +31,4 @@ returns c = let n = c .before .before .before .args .n in c .f32-of-bits .ensure
 pub i64-to-f32-spec : {M : Type 1} → statement M
 i64-to-f32-spec =
     tie.close
-    (tie.spec magnitude-requires whole-bits-requires cast-f32-of-bits f32-of-bits-requires returns)
+    (tie.spec size-i64-requires whole-bits-requires cast-f32-of-bits f32-of-bits-requires returns)

@@ -9,10 +9,10 @@ use Rattle.rounding.proofs.narrow.i64_to_half.Statement.{statement}
 use Rattle.rounding.proofs.narrow.i64_to_half.Tie as tie
 
 bits : (c : tie.After-whole-bits) → c .whole-bits .result ≡ toBits half (ofInteger half (c .before .before .args .n))
-bits c = integer-bits half (c .before .before .args .n) (c .before .before .fits .n) (c .before .magnitude .ensures) (c .whole-bits .ensures)
+bits c = integer-bits half (c .before .before .args .n) (c .before .before .fits .n) (c .before .size-i64 .ensures) (c .whole-bits .ensures)
 
-magnitude-requires : tie.Need-magnitude-requires
-magnitude-requires c κs = search needs
+size-i64-requires : tie.Need-size-i64-requires
+size-i64-requires c κs = search needs
 
 whole-bits-requires : tie.Need-whole-bits-requires
 whole-bits-requires c κs = search needs
@@ -24,4 +24,4 @@ returns : tie.Need-returns
 returns c = bits c
 
 pub i64-to-half-spec : {M : Type 1} → statement M
-i64-to-half-spec = tie.close (tie.spec magnitude-requires whole-bits-requires cast-result returns)
+i64-to-half-spec = tie.close (tie.spec size-i64-requires whole-bits-requires cast-result returns)

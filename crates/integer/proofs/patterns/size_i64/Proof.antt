@@ -1,9 +1,9 @@
--- `integer::checked::size` meets its contract. Assumes nothing.
+-- `integer::patterns::size_i64` meets its contract. Assumes nothing.
 use mir.Syntax.{w64}
 use Rattle.integer.proofs.Pattern.{neg-cast, pos-cast, size-neg, size-neg-fits}
 use borrow.Author.Needs.{needs}
-use Rattle.integer.proofs.checked.size.Statement.{statement}
-use Rattle.integer.proofs.checked.size.Tie as tie
+use Rattle.integer.proofs.patterns.size_i64.Statement.{statement}
+use Rattle.integer.proofs.patterns.size_i64.Tie as tie
 
 cast-result : tie.Need-cast-result
 cast-result c = neg-cast w64 _ (c .before .fits .x) (c .if1 .taken)
@@ -20,5 +20,5 @@ returns c = size-neg w64 _ (c .before .fits .x) (c .if1 .taken)
 returns-2 : tie.Need-returns-2
 returns-2 c = search needs
 
-pub size-spec : {M : Type 1} → statement M
-size-spec = tie.close (tie.spec cast-result add-result cast-result-2 returns returns-2)
+pub size-i64-spec : {M : Type 1} → statement M
+size-i64-spec = tie.close (tie.spec cast-result add-result cast-result-2 returns returns-2)
