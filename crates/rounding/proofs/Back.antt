@@ -3,23 +3,22 @@
 use Prim.Native.Nat.{ℕ, zero, suc, _+_, _-_, _*_, _/_, _%_, _^_, _≤_, _<_}
 use mathlib.Core.Path.{_≡_, refl, sym, ap, _∙_, subst}
 use mathlib.Core.Bool.{Bool, true, false, not, cond}
-use mathlib.Core.Logic.{_⊎_, inl, inr}
-use native.Mathlib.Nat.{le-trans, le-of-lt, le-of-eq, le-add-right, mod-lt, mod-eq-of-lt, mod-eq-sub-mod, sub-lt-left-of-lt-add, add-sub-of-le, div-add-mod', mod-mod-of-dvd, dvd-mul-right, mul-pos, zero-lt-suc, zero-add, suc-mul, add-assoc, lt-of-lt-of-le}
+use mathlib.Core.Logic.{inl, inr}
+use native.Mathlib.Nat.{le-trans, le-of-lt, le-of-eq, le-add-right, mod-lt, mod-eq-of-lt, mod-eq-sub-mod, sub-lt-left-of-lt-add, add-sub-of-le, div-add-mod', mod-mod-of-dvd, dvd-mul-right, zero-add, suc-mul, add-assoc, lt-of-lt-of-le}
 use native.Mathlib.Omega.{arith}
-use lib.Dec.{T, leb, eqb, leb→le, nleb→lt, eqb→eq}
+use lib.Dec.{T, leb, eqb, leb→le, nleb→lt}
 use lib.Pow.{pow-pos, pow-mono}
 use lib.Ieee as Ieee
-use lib.Ieee.{Float, Format, nan, inf, fin, up, down, odd, fits}
+use lib.Ieee.{Float, Format, nan, inf, fin, up, down, fits}
 use lib.Ieee.Fits.{round-fits, nan-fits, inf-fits}
 use lib.Ieee.Bits.{ofBits-toBits}
 use borrow.Author.Tests.{eqb-true, eqb-false}
-use Rattle.rounding.specs.Kind.{Kind, double, least, convert}
+use Rattle.rounding.specs.Kind.{Kind, double, convert}
 use Rattle.rounding.specs.Bits.{hidden, full, signed, ofBits, ofFields, toBits}
 use Rattle.rounding.proofs.Same.{of, round-is, toBits-is, ofBits-is}
 use Rattle.rounding.proofs.Fields.{read, fields-low, fields-mid, fields-inf}
-use Rattle.rounding.proofs.Digits.{Whole, packed, twice}
+use Rattle.rounding.proofs.Digits.{packed, twice}
 use Rattle.rounding.proofs.Units.{Sized, bits-odd, inf-bits}
-use Rattle.rounding.proofs.Width.{under}
 
 -- ---- a value of F32 or F64, read back from its bits
 pub bits-back : (f : Format) (x : Float) → T (fits f x) → ofBits (of f) (toBits (of f) x) ≡ x

@@ -3,11 +3,11 @@ use Prim.Native.Nat.{ℕ, zero, suc, _+_, _-_, _*_, _/_, _%_, _^_, _≤_, _<_, c
 use mathlib.Core.Path.{_≡_, refl, sym, ap, _∙_, subst}
 use mathlib.Core.Bool.{Bool, true, false, not, _||_}
 use mathlib.Core.Logic.{_⊎_, inl, inr}
-use native.Mathlib.Nat.{lt-irrefl, mod-lt, add-comm, mul-comm, le-trans, le-of-eq, mul-le-mul-left, div-mul-le-self, pow-suc, mul-one, zero-mul, one-mul, zero-add}
+use native.Mathlib.Nat.{mod-lt, add-comm, le-trans, mul-le-mul-left, div-mul-le-self, zero-mul, one-mul, zero-add}
 use native.Mathlib.Numerals.{add-one}
 use native.Mathlib.Omega.{arith}
 use lib.Arith.{lt-of-le-ne}
-use lib.Dec.{T, leb, eqb, isLe, isEq, leb→le, nleb→lt, eqb→eq, eqb-refl, le→leb}
+use lib.Dec.{T, eqb, isLe, isEq, leb→le, nleb→lt, eqb→eq, eqb-refl}
 use lib.Pow.{pow-pos, pow-add, shr-shr, mod-pow-add}
 use lib.Ieee.{nearest}
 use lib.Ieee.Nearest.{closest}

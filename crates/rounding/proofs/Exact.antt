@@ -2,21 +2,21 @@
 use Prim.Native.Nat.{ℕ, zero, suc, _+_, _-_, _*_, _/_, _%_, _^_, _≤_, _<_}
 use mathlib.Core.Path.{_≡_, refl, sym, ap, _∙_, subst}
 use mathlib.Core.Bool.{Bool, true, false, not, _&&_, cond}
-use native.Mathlib.Nat.{le-trans, le-of-lt, lt-of-lt-of-le, one-mul, mul-one, mul-assoc, mul-comm, mul-left-comm, mul-right-comm, mul-pos}
+use native.Mathlib.Nat.{le-trans, le-of-lt, lt-of-lt-of-le, mul-assoc, mul-comm, mul-left-comm, mul-pos}
 use native.Mathlib.Omega.{arith}
 use lib.IntN.{ℤ, pos, negsuc}
 use lib.Dec.{T, leb, eqb, leb→le, nleb→lt, lit≤, lit<}
 use lib.Pow.{pow-add, pow-pos, pow-mono, shl-lt}
 use lib.Count.{trailingZeros}
 use lib.Ieee as Ieee
-use lib.Ieee.{Float, Format, nan, inf, fin, binary32, low, up, down, minus, unlike, odd, fits, nanBits, neg}
+use lib.Ieee.{Float, Format, fin, binary32, low, up, down, minus, unlike, odd, fits, nanBits, neg}
 use lib.Ieee.Fits.{odd-fits, mul-fits, down-pos}
 use lib.Ieee.Exact.{HasValue, odd-sign, round-exact}
 use lib.Ieee.Back.{round-whole}
 use lib.Ieee.Bits.{ofBits-toBits}
 use lib.Ieee.Scale.{round-same}
 use borrow.Author.Tests.{le-leb, lt-leb, ne-eqb}
-use Rattle.rounding.specs.Kind.{Kind, single, least}
+use Rattle.rounding.specs.Kind.{single}
 use Rattle.rounding.specs.Bits.{signed, ofFields, ofBits, toBits}
 use Rattle.rounding.proofs.Same.{of, toBits-is, ofBits-is}
 use Rattle.rounding.proofs.Units.{bits-of}

@@ -1,13 +1,13 @@
 -- Finite is: above the negative infinity and below the positive one; by the bits without the sign, below the infinity's. Assumes nothing.
-use Prim.Native.Nat.{ℕ, zero, suc, _+_, _-_, _*_, _/_, _%_, _^_, _≤_, _<_}
+use Prim.Native.Nat.{ℕ, suc, _+_, _-_, _*_, _/_, _%_, _≤_, _<_}
 use mathlib.Core.Path.{_≡_, refl, sym, ap, _∙_}
-use mathlib.Core.Bool.{Bool, true, false, cond}
+use mathlib.Core.Bool.{Bool, true, false}
 use native.Mathlib.Nat.{div-lt-iff-lt-mul, le-div-iff-mul-le, lt-of-lt-of-le, le-of-eq, mod-lt, mul-pos, mul-comm, zero-lt-suc}
 use native.Mathlib.Omega.{arith}
 use lib.Pow.{pow-pos}
 use lib.Dec.{leb, ltb, eqb}
-use lib.Ieee.{Float, nan, inf, fin, lt, odd}
-use borrow.Author.Tests.{lt-ltb, le-ltb, ltb-true, ltb-false, eqb-true, eqb-false}
+use lib.Ieee.{Float, nan, inf, fin, lt}
+use borrow.Author.Tests.{ltb-true, ltb-false, eqb-true, eqb-false}
 use Rattle.rounding.specs.Kind.{Kind, least}
 use Rattle.rounding.specs.Bits.{finite, ofBits, ofFields, hidden, full, signed}
 use Rattle.rounding.proofs.Units.{odd-finite}

@@ -1,16 +1,15 @@
 -- An F64 by its bits, rounded to a format. Assumes nothing.
-use Prim.Native.Nat.{ℕ, zero, suc, _+_, _-_, _*_, _/_, _%_, _^_, _≤_, _<_, min}
+use Prim.Native.Nat.{ℕ, zero, suc, _+_, _-_, _*_, _/_, _%_, _^_, _≤_, min}
 use mathlib.Core.Path.{_≡_, refl, sym, ap, _∙_, subst}
-use mathlib.Core.Bool.{Bool, true, false, not, _&&_, cond}
-use mathlib.Core.Logic.{_⊎_, inl, inr}
+use mathlib.Core.Bool.{Bool, true, not, _&&_, cond}
 use native.Mathlib.Nat.{mul-assoc, mul-comm, le-trans, mul-le-mul-left, mul-le-mul-right}
 use native.Mathlib.Omega.{arith}
 use lib.Dec.{T, leb, eqb, eqb·suc-zero}
 use lib.Pow.{pow-add, pow-pos, pow-mono}
-use lib.Ieee.{Float, nan, inf, fin, odd, nanBits, binary64}
-use borrow.Author.Tests.{eq-eqb, ne-eqb, le-leb, lt-leb}
-use Rattle.rounding.specs.Kind.{Kind, kind, double, least, roundTo, convert}
-use Rattle.rounding.specs.Bits.{hidden, full, signed, toBits, ofBits, ofFields}
+use lib.Ieee.{Float, nan, inf, odd, nanBits, binary64}
+use borrow.Author.Tests.{eq-eqb}
+use Rattle.rounding.specs.Kind.{Kind, kind, double, least, convert}
+use Rattle.rounding.specs.Bits.{hidden, full, signed, toBits, ofBits}
 use Rattle.rounding.specs.Pack.{pack}
 use Rattle.rounding.proofs.Fields.{read, fields-low, fields-mid, fields-inf, fields-nan}
 use Rattle.rounding.proofs.Normal.{weight-is}

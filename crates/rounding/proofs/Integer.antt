@@ -1,7 +1,7 @@
 -- An i64 rounded to a kind, by its sign and how far it is from 0. Assumes nothing.
 use Prim.Native.Nat.{ℕ, _<_, _*_}
-use mathlib.Core.Path.{_≡_, refl, sym, ap, _∙_, subst}
-use mathlib.Core.Bool.{Bool, true, false}
+use mathlib.Core.Path.{_≡_, refl, ap, _∙_, subst}
+use mathlib.Core.Bool.{Bool}
 use lib.IntN.{ℤ, pos, negsuc, natAbs}
 use lib.Dec.{T}
 use lib.Signed.{ltZ}

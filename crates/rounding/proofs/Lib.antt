@@ -1,3 +1,4 @@
+-- Laws, each once over the kind.
 pub mod Same
 pub mod Single
 pub mod Nan
@@ -9,6 +10,7 @@ pub mod Cut
 pub mod Closest
 pub mod Pack
 pub mod Nearest
+pub mod Remainder
 pub mod Width
 pub mod Back
 pub mod Normal

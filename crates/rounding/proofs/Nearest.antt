@@ -1,20 +1,19 @@
 -- Rounding is what its name says: `roundTo` gives a value of the kind, none is nearer to the fraction, of two as near the one with the even last digit
 -- is taken, and from half a step beyond the largest finite value on it gives the infinity. Assumes nothing.
-use Prim.Native.Nat.{ℕ, zero, suc, _+_, _-_, _*_, _/_, _%_, _^_, _≤_, _<_}
+use Prim.Native.Nat.{ℕ, suc, _+_, _-_, _*_, _/_, _%_, _^_, _≤_, _<_}
 use mathlib.Core.Path.{_≡_, refl, sym, ap, _∙_, subst}
-use mathlib.Core.Bool.{Bool, true, false, cond}
+use mathlib.Core.Bool.{Bool}
 use mathlib.Core.Logic.{_⊎_, inl, inr}
-use native.Mathlib.Nat.{le-trans, le-of-eq, le-of-lt, lt-irrefl, lt-of-lt-of-le, lt-of-le-of-lt, eq-zero-or-pos, eq-or-lt-of-le, mul-comm, mul-assoc, mul-one, mul-pos, mul-le-mul-right, mul-lt-mul-of-pos-right, lt-of-mul-lt-mul-right, le-of-mul-le-mul-right, le-div-iff-mul-le, div-lt-iff-lt-mul, add-mul, suc-mul, pow-succ', le-of-suc-le-suc, lt-of-not-le}
+use native.Mathlib.Nat.{le-trans, le-of-eq, le-of-lt, lt-irrefl, lt-of-lt-of-le, lt-of-le-of-lt, eq-or-lt-of-le, mul-comm, mul-assoc, mul-pos, mul-le-mul-right, mul-lt-mul-of-pos-right, lt-of-mul-lt-mul-right, le-of-mul-le-mul-right, le-div-iff-mul-le, div-lt-iff-lt-mul, add-mul, suc-mul, pow-succ', le-of-suc-le-suc, lt-of-not-le, eq-of-mul-eq-mul-right}
 use native.Mathlib.Omega.{arith}
-use lib.Dec.{ltb}
 use lib.Pow.{pow-add, pow-pos, pow-mono, pow-lt, shl-lt}
-use lib.Ieee.{Float, inf, size}
+use lib.Ieee.{Float, size}
 use lib.Ieee.Digits.{size-le, size-lt, size-reaches}
 use lib.Ieee.Exact.{HasValue, odd-sign}
 use lib.Ieee.Nearest.{closest}
 use borrow.Author.Tests.{lt-ltb, le-ltb}
 use Rattle.rounding.specs.Kind.{Kind, least, unitsIn, roundTo}
-use Rattle.rounding.specs.Nearest.{over, Held, apart, gap, Even, Beyond, Nearest, Rounded}
+use Rattle.rounding.specs.Nearest.{over, Held, apart, Beyond, Rounded}
 use Rattle.rounding.proofs.Digits.{Whole, Written, written, twice, pow-lt-back}
 use Rattle.rounding.proofs.Units.{Sized, units-in, units-out}
 use Rattle.rounding.proofs.Closest.{le-or-lt, near, even-at-tie, within-half}
@@ -23,23 +22,24 @@ use Rattle.rounding.proofs.Pack.{kept-small, kept-whole}
 regroup : (q x d : ℕ) → q * x * d ≡ q * (d * x)
 regroup q x d = mul-assoc q x d ∙ ap (λ (y : ℕ). q * y) (mul-comm x d)
 
+-- a multiple of 2 ^ i is one of 2 ^ j where j is no more, and below 2 ^ p of them are below 2 ^ (p - 1) of 2 ^ j where j is more
+pub longer : (j a i : ℕ) → j ≤ i → a * 2 ^ i ≡ a * 2 ^ (i - j) * 2 ^ j
+longer j a i h = let e : i ≡ i - j + j = omega arith in ap (λ (x : ℕ). a * 2 ^ x) e ∙ ap (λ (x : ℕ). a * x) (pow-add 2 (i - j) j) ∙ sym (mul-assoc a (2 ^ (i - j)) (2 ^ j))
+
+shorter : (p j a i : ℕ) → 2 ≤ p → a < 2 ^ p → i < j → a * 2 ^ i < 2 ^ (p - 1) * 2 ^ j
+shorter p j a i two s h =
+    let e : p + i ≤ p - 1 + j = omega arith in
+    lt-of-lt-of-le (shl-lt p i s) (le-trans (pow-mono e) (le-of-eq (pow-add 2 (p - 1) j)))
+
 -- ---- a value with a longer step than u's is a multiple of u's step, and one with a shorter is below a multiple that is no further than n
 module _ (p n den j : ℕ) (two : 2 ≤ p) (D : 0 < den) (dropped : 0 < j → 2 ^ (p - 1) * 2 ^ j * den ≤ n) where
-  long : (a i : ℕ) → j ≤ i → a * 2 ^ i ≡ a * 2 ^ (i - j) * 2 ^ j
-  long a i h = let e : i ≡ i - j + j = omega arith in ap (λ (x : ℕ). a * 2 ^ x) e ∙ ap (λ (x : ℕ). a * x) (pow-add 2 (i - j) j) ∙ sym (mul-assoc a (2 ^ (i - j)) (2 ^ j))
-
-  short : (a i : ℕ) → a < 2 ^ p → i < j → a * 2 ^ i < 2 ^ (p - 1) * 2 ^ j
-  short a i s h =
-      let e : p + i ≤ p - 1 + j = omega arith in
-      lt-of-lt-of-le (shl-lt p i s) (le-trans (pow-mono e) (le-of-eq (pow-add 2 (p - 1) j)))
-
   -- v is w * 2 ^ j, or further away than 2 ^ (p - 1) * 2 ^ j is
   placed : (v a i : ℕ) → v ≡ a * 2 ^ i → a < 2 ^ p → ((w : ℕ) × (v ≡ w * 2 ^ j)) ⊎ (apart (2 ^ (p - 1) * 2 ^ j * den) n < apart (v * den) n)
   placed v a i e s =
       elim (le-or-lt j i) [
-        | inl h ↦ inl (a * 2 ^ (i - j), e ∙ long a i h)
+        | inl h ↦ inl (a * 2 ^ (i - j), e ∙ longer j a i h)
         | inr h ↦
-            let b : v * den < 2 ^ (p - 1) * 2 ^ j * den = mul-lt-mul-of-pos-right (subst (λ (x : ℕ). x < 2 ^ (p - 1) * 2 ^ j) (sym e) (short a i s h)) D in
+            let b : v * den < 2 ^ (p - 1) * 2 ^ j * den = mul-lt-mul-of-pos-right (subst (λ (x : ℕ). x < 2 ^ (p - 1) * 2 ^ j) (sym e) (shorter p j a i two s h)) D in
             inr (beyond (v * den) (2 ^ (p - 1) * 2 ^ j * den) n b (dropped (positive i j h)))
       ]
     where
@@ -254,3 +254,38 @@ module _ (k : Kind) (sized : Sized k) (s : Bool) (num den : ℕ) (D : 0 < den) w
                   ];
             };
       }
+
+-- ---- a fraction that is a value of the kind stays what it is
+module _ (k : Kind) (sized : Sized k) (s : Bool) (num den : ℕ) (D : 0 < den) (v : ℕ) (held : Held k v) (same : v * den ≡ num * 2 ^ least k) where
+  abbrev J : ℕ
+  J = 2 * k .reach - 1
+
+  -- no value is above the last step below `over`
+  under-last : v + 2 ^ J ≤ over k
+  under-last = rw (over-is k sized s num den D, pow-add) (elim (le-or-lt J (held .exponent)) [ inl h ↦ stepped h | inr h ↦ fine h ])
+    where
+      stepped : J ≤ held .exponent → v + 2 ^ J ≤ 2 ^ k .digits * 2 ^ J
+      stepped h =
+          let w = held .significand * 2 ^ (held .exponent - J) in
+          let e : v ≡ w * 2 ^ J = held .value ∙ longer J (held .significand) (held .exponent) h in
+          let l : w * 2 ^ J < 2 ^ k .digits * 2 ^ J = subst (λ (x : ℕ). x < 2 ^ k .digits * 2 ^ J) e (lt-of-lt-of-le (held .within) (le-of-eq (over-is k sized s num den D ∙ pow-add 2 (k .digits) J))) in
+          subst (λ (x : ℕ). x + 2 ^ J ≤ 2 ^ k .digits * 2 ^ J) (sym e) (le-trans (le-of-eq (sym (suc-mul w (2 ^ J)))) (mul-le-mul-right (2 ^ J) (lt-of-mul-lt-mul-right (2 ^ J) l)))
+
+      fine : held .exponent < J → v + 2 ^ J ≤ 2 ^ k .digits * 2 ^ J
+      fine h =
+          let l : v < 2 ^ (k .digits - 1) * 2 ^ J = subst (λ (x : ℕ). x < 2 ^ (k .digits - 1) * 2 ^ J) (sym (held .value)) (shorter (k .digits) J (held .significand) (held .exponent) (sized .two) (held .short) h) in
+          let t : 2 ^ k .digits * 2 ^ J ≡ 2 * (2 ^ (k .digits - 1) * 2 ^ J) = ap (λ (x : ℕ). x * 2 ^ J) (twice (k .digits) (omega (arith, sized .two))) ∙ mul-assoc 2 (2 ^ (k .digits - 1)) (2 ^ J) in
+          let o : 1 * 2 ^ J ≤ 2 ^ (k .digits - 1) * 2 ^ J = mul-le-mul-right (2 ^ J) (pow-pos (k .digits - 1)) in
+          omega arith
+
+  not-beyond : Beyond k num den → ⊥
+  not-beyond b =
+      let l : 2 * over k - 2 ^ J ≤ 2 * v = le-of-mul-le-mul-right (le-trans b (le-of-eq (ap (λ (x : ℕ). 2 * x) (sym same) ∙ sym (mul-assoc 2 v den)))) D in
+      omega (arith, under-last, pow-pos J)
+
+  pub value-stays : HasValue (roundTo k s num den) s v (2 ^ least k)
+  value-stays =
+      let r = rounded k sized s num den D .within not-beyond in
+      let g : apart (r .units * den) (num * 2 ^ least k) ≤ apart (v * den) (num * 2 ^ least k) = r .nearest v held in
+      let e : r .units * den ≡ v * den = omega (arith, same) in
+      subst (λ (x : ℕ). HasValue (roundTo k s num den) s x (2 ^ least k)) (eq-of-mul-eq-mul-right den D (r .units) v e) (r .value)

@@ -1,10 +1,9 @@
 -- What `packed` does on plain numbers: m is moved up until its highest bit is bit 63, and then the digits to keep are its highest ones. Assumes nothing.
-use Prim.Native.Nat.{ℕ, zero, suc, _+_, _-_, _*_, _/_, _%_, _^_, _≤_, _<_, compare}
+use Prim.Native.Nat.{ℕ, suc, _+_, _-_, _*_, _/_, _%_, _^_, _≤_, _<_, compare}
 use mathlib.Core.Path.{_≡_, refl, sym, ap, _∙_, subst}
-use mathlib.Core.Logic.{_⊎_, inl, inr}
-use native.Mathlib.Nat.{le-trans, le-of-eq, lt-of-lt-of-le, lt-of-le-of-lt, mul-one, one-mul, zero-mul, mul-assoc, mul-right-comm, mul-le-mul-right, mul-le-mul-left, mod-eq-of-lt, le-div-iff-mul-le}
+use mathlib.Core.Logic.{inl, inr}
+use native.Mathlib.Nat.{le-trans, le-of-eq, lt-of-lt-of-le, mul-one, one-mul, zero-mul, mul-assoc, mul-le-mul-right, mul-le-mul-left, mod-eq-of-lt, le-div-iff-mul-le}
 use native.Mathlib.Omega.{arith}
-use lib.Dec.{lit≤, lit<}
 use lib.Pow.{pow-add, pow-pos, pow-mono, pow-lt, shl-lt, shr-lt}
 use lib.Count.{leadingZeros, leading-top}
 use lib.Ieee.Fits.{nearest-le}

@@ -1,6 +1,6 @@
--- 01, Operators: a float `+ - * /` is the exact result rounded once; `%` is exact; zeros, infinities, NaNs and comparisons as in IEEE 754. Assumes nothing.
+-- 01, Operators: a float `+ - * /` is the exact result rounded once; `%` is exact, which `proofs/Remainder.antt` shows; comparisons as in IEEE 754. Assumes nothing.
 use Prim.Native.Nat.{ℕ, _+_, _-_, _*_, _%_}
-use mathlib.Core.Bool.{Bool, true, false, not, _&&_, Bool·beq, cond}
+use mathlib.Core.Bool.{Bool, false, not, _&&_, Bool·beq, cond}
 use lib.IntN.{pos}
 use lib.Dec.{ltb, eqb}
 use lib.Ieee.{Float, nan, inf, fin, up, down, unlike, neg, below, level}

@@ -1,5 +1,4 @@
 -- An F64 to the bits of an F16. Assumes nothing.
-use Prim.Native.Nat.{ℕ, _<_}
 use mathlib.Core.Path.{_≡_, sym, subst}
 use lib.Dec.{T}
 use borrow.Author.Needs.{needs}

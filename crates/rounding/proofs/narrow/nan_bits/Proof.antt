@@ -1,7 +1,7 @@
+-- The NaN that is kept. Assumes nothing.
 use Prim.Native.Nat.{ℕ, _+_, _-_, _*_, _/_, _%_, _^_, _≤_}
-use mathlib.Core.Path.{_≡_, refl, ap, _∙_}
+use mathlib.Core.Path.{ap, _∙_}
 use native.Mathlib.Omega.{arith}
-use lib.Ieee.{nan}
 use Rattle.rounding.specs.Kind.{kind}
 use Rattle.rounding.specs.Bits.{full, hidden, toBits}
 use Rattle.rounding.proofs.Normal.{weight-is}

@@ -1,5 +1,4 @@
 -- The bits of a value, a NaN as it is kept. Assumes nothing.
-use mathlib.Core.Path.{_∙_}
 use lib.Ieee.{binary64}
 use Rattle.rounding.specs.Bits.{toBits}
 use Rattle.rounding.proofs.Same.{toBits-is}

@@ -1,9 +1,10 @@
-use Prim.Native.Nat.{ℕ, _+_, _*_, _-_, _/_, _%_, _^_, _≤_, _<_}
+-- Rounding by places: the loop keeps what was cut off, by its half bit and the rest. Assumes nothing.
+use Prim.Native.Nat.{ℕ, _+_, _*_, _-_, _/_, _%_, _^_, _≤_}
 use mathlib.Core.Path.{_≡_, refl, sym, ap, _∙_, subst}
-use native.Mathlib.Nat.{le-refl, div-one}
+use native.Mathlib.Nat.{div-one}
 use native.Mathlib.Omega.{arith}
 use Rattle.rounding.proofs.Cut.{CutAt, none, more, next, or-yes, or-no, kept-half, ends-up, ends-even, ends-down}
-use mathlib.Core.Bool.{Bool, true, false}
+use mathlib.Core.Bool.{Bool, true}
 use mathlib.Core.Logic.{⊎-elim}
 use Rattle.rounding.proofs.places.round_whole.Statement.{statement}
 use Rattle.rounding.proofs.places.round_whole.Tie as tie

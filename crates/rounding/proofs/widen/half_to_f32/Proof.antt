@@ -1,12 +1,13 @@
-use Prim.Native.Nat.{ℕ, _/_, _%_, _^_}
+-- The value of an F16, by its fields. Assumes nothing.
+use Prim.Native.Nat.{_/_, _%_, _^_}
 use mathlib.Core.Path.{_≡_, refl, sym, ap, _∙_}
-use mathlib.Core.Bool.{Bool, true, false}
+use mathlib.Core.Bool.{true, false}
 use lib.Dec.{leb}
 use lib.Ieee as Ieee
-use lib.Ieee.{Float, binary32, inf, nan}
+use lib.Ieee.{binary32, inf, nan}
 use borrow.Author.Needs.{needs}
 use Rattle.rounding.specs.Kind.{half}
-use Rattle.rounding.specs.Bits.{ofBits, ofFields}
+use Rattle.rounding.specs.Bits.{ofBits}
 use Rattle.rounding.proofs.Fields.{read, fields-low, fields-mid, fields-inf, fields-nan}
 use Rattle.rounding.proofs.widen.half_to_f32.Statement.{statement}
 use Rattle.rounding.proofs.widen.half_to_f32.Tie as tie

@@ -1,5 +1,5 @@
-use Prim.Native.Nat.{ℕ}
-use mathlib.Core.Path.{_≡_, sym, ap, _∙_}
+-- A whole number times a power of two, exact in F32. Assumes nothing.
+use mathlib.Core.Path.{sym, ap, _∙_}
 use mathlib.Core.Bool.{Bool}
 use lib.Ieee.{neg, odd}
 use borrow.Author.Needs.{needs}
