@@ -1,19 +1,18 @@
 -- Products: where an unsigned one is in the range, and the signed one by sign and size. Assumes nothing.
 use mathlib.Core.Path.{_≡_, refl, sym, ap, ap₂, subst, _∙_}
-use mathlib.Core.Bool.{Bool, true, false, not, Bool·beq}
+use mathlib.Core.Bool.{Bool, true, false, cond, not, Bool·beq}
 use Prim.Native.Nat.{ℕ, zero, suc, _-_, _*_, _/_, _^_, _≤_, _<_, zero-le}
 use native.Mathlib.Omega.{arith}
 use native.Mathlib.Nat.{div-lt-iff-lt-mul, le-div-iff-mul-le}
 use borrow.Author.Tests.{lt-ltb, le-ltb, ltb-true, ltb-false, not-true, not-false}
 use lib.Dec.{ltb}
-use lib.IntN.{ℤ, pos, negsuc, natAbs, _*ℤ_}
+use lib.IntN.{ℤ, pos, negsuc, negℤ, natAbs, _*ℤ_}
 use lib.Signed.{mag, ltZ}
 use mir.Syntax.{Width, w64}
 use mir.Val.{Fits, SFits, bits, hbits, toZ, ofZ}
 use mir.ValLaws.{toZ-ofZ, toZ-neg, pow-bits}
 use Rattle.integer.specs.declared.Whole.the-variants.{Value, Over}
 use Rattle.integer.specs.Range.{inUnsigned, wholeOf}
-use Rattle.integer.specs.Size.{signedBy}
 use Rattle.integer.proofs.Range.{in-yes, whole-out}
 
 -- ---- an unsigned product: `MAX / b < a`
@@ -34,6 +33,9 @@ pub product-fits : (w : Width) (a b : ℕ) {t : Bool} → t ≡ not (inUnsigned 
 product-fits w a b e q = record { fits = ltb-true (a * b) (2 ^ bits w) (not-false (inUnsigned w (a * b)) (sym e ∙ q)) }
 
 -- ---- sign and size
+abbrev signedBy : Bool → ℕ → ℤ
+signedBy t m = cond t (negℤ (pos m)) (pos m)
+
 pub by-sign : (x y : ℤ) → x *ℤ y ≡ signedBy (not (Bool·beq (ltZ x (pos 0)) (ltZ y (pos 0)))) (natAbs x * natAbs y)
 by-sign (pos a) (pos b) = rw (le-ltb a 0 zero-le, le-ltb b 0 zero-le)
 by-sign (pos a) (negsuc b) = rw (le-ltb a 0 zero-le)

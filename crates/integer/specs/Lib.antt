@@ -1,6 +1,5 @@
 -- What this crate's promises say, each over the width. Assumes nothing.
 pub mod Wrap
 pub mod Range
-pub mod Size
 pub mod Quotient
 pub mod Shift

@@ -2,12 +2,11 @@
 use crate::Whole;
 use crate::patterns;
 ghost use mathlib.Core.Path.{_≡_};
-ghost use mathlib.Core.Bool.{not};
+ghost use mathlib.Core.Bool.{cond, not};
 ghost use Prim.Native.Nat.{_*_};
-ghost use lib.IntN.{_+ℤ_, _-ℤ_, _*ℤ_};
+ghost use lib.IntN.{pos, negℤ, _+ℤ_, _-ℤ_, _*ℤ_};
 ghost use mir.Syntax.{w64};
 ghost use Rattle.integer.specs.Range.{wholeOf, inSigned, inUnsigned};
-ghost use Rattle.integer.specs.Size.{signedBy};
 
 // x + y, where 64 bits hold it.
 pub fn add_i64(x: i64, y: i64) -> Whole
@@ -67,7 +66,7 @@ fn product_over(a: u64, b: u64) -> bool
 
 // m or -m, where 64 bits hold it.
 fn with_sign(neg: bool, m: u64) -> Whole
-    ensures { λ r. ⌜ r ≡ wholeOf (signedBy neg m) ⌝ }
+    ensures { λ r. ⌜ r ≡ wholeOf (cond neg (negℤ (pos m)) (pos m)) ⌝ }
 {
     if neg {
         if m == 0 {

@@ -1,0 +1,16 @@
+-- The laws of this crate. Assumes nothing.
+pub mod Choice
+pub mod Arms
+pub mod Relations
+pub mod Range
+pub mod Pairing
+pub mod Widths
+pub mod Negated
+pub mod Counted
+pub mod Called
+pub mod Steps
+pub mod Sound
+pub mod Keeps
+pub mod Promises
+pub mod Single
+pub mod Cases

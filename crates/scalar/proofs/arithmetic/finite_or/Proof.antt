@@ -1,0 +1,18 @@
+-- `scalar::arithmetic::finite_or` meets its contract. Assumes nothing.
+use mathlib.Core.Path.{sym, _∙_}
+use Rattle.scalar.proofs.Choice.{picked}
+use borrow.Author.Needs.{needs}
+use Rattle.scalar.proofs.arithmetic.finite_or.Statement.{statement}
+use Rattle.scalar.proofs.arithmetic.finite_or.Tie as tie
+
+is-finite-requires : tie.Need-is-finite-requires
+is-finite-requires c κs = search needs
+
+returns : tie.Need-returns
+returns c = picked _ _ (sym (c .before .is-finite .ensures) ∙ c .if1 .taken)
+
+returns-2 : tie.Need-returns-2
+returns-2 c = search needs
+
+pub finite-or-spec : {M : Type 1} → statement M
+finite-or-spec = tie.close (tie.spec is-finite-requires returns returns-2)

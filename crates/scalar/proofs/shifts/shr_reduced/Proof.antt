@@ -1,0 +1,95 @@
+-- `scalar::shifts::shr_reduced` meets its contract. Assumes nothing.
+use lib.IntN.{ℤ}
+use mir.Syntax.{w32, w64}
+use mir.Val.{SFits}
+use mathlib.Core.Path.{ap}
+use Prim.Native.Nat.{ℕ}
+use Rattle.scalar.specs.Answer.{value}
+use Rattle.scalar.proofs.Called.{called}
+use Prim.Native.Nat.{_%_, _^_}
+use lib.Signed.{shrZ}
+use Rattle.scalar.specs.declared.Scalar.the-variants.{AbstractInt, I32, U32}
+use borrow.Author.Needs.{needs}
+use Rattle.scalar.proofs.shifts.shr_reduced.Statement.{statement}
+use Rattle.scalar.proofs.shifts.shr_reduced.Tie as tie
+
+enum-told : tie.Need-enum-told
+enum-told c = search needs
+
+enum-known-l : tie.Need-enum-known-l
+enum-known-l c = search needs
+
+shr-i64-requires : tie.Need-shr-i64-requires
+shr-i64-requires c κs = search needs
+
+enum-told-2 : tie.Need-enum-told-2
+enum-told-2 c = search needs
+
+enum-known-l-2 : tie.Need-enum-known-l-2
+enum-known-l-2 c = search needs
+
+shr-i32-requires : tie.Need-shr-i32-requires
+shr-i32-requires c κs = search needs
+
+enum-known-l-3 : tie.Need-enum-known-l-3
+enum-known-l-3 c = search needs
+
+shr-u32-requires : tie.Need-shr-u32-requires
+shr-u32-requires c κs = search needs
+
+enum-told-3 : tie.Need-enum-told-3
+enum-told-3 c = search needs
+
+enum-told-4 : tie.Need-enum-told-4
+enum-told-4 c = search needs
+
+returns : tie.Need-returns
+returns c = search needs
+
+returns-2 : tie.Need-returns-2
+returns-2 c =
+    let p = c .before .before .l .given in
+    let f : SFits w64 (p .0 .0) = search needs in
+    let g : SFits w64 (c .shr-i64 .result) = search needs in
+    rw (p .1) (ap (λ (z : ℤ). value (AbstractInt z)) (called w64 (λ z. shrZ z (2 ^ c .before .before .before .before .args .n)) g f (c .shr-i64 .ensures)))
+
+returns-3 : tie.Need-returns-3
+returns-3 c = search needs
+
+returns-4 : tie.Need-returns-4
+returns-4 c =
+    let p = c .before .before .l2 .given in
+    let f : SFits w32 (p .0 .0) = search needs in
+    let g : SFits w32 (c .shr-i32 .result) = search needs in
+    rw (p .1) (ap (λ (z : ℤ). value (I32 z)) (called w32 (λ z. shrZ z (2 ^ (c .before .before .before .before .args .n % 32))) g f (c .shr-i32 .ensures)))
+
+returns-5 : tie.Need-returns-5
+returns-5 c = rw (c .before .before .l3 .given .1) (ap (λ (n : ℕ). value (U32 n)) (c .shr-u32 .ensures))
+
+returns-6 : tie.Need-returns-6
+returns-6 c = search needs
+
+returns-7 : tie.Need-returns-7
+returns-7 c = search needs
+
+pub shr-reduced-spec : {M : Type 1} → statement M
+shr-reduced-spec =
+    tie.close
+    (tie.spec
+    enum-told
+    enum-known-l
+    shr-i64-requires
+    enum-told-2
+    enum-known-l-2
+    shr-i32-requires
+    enum-known-l-3
+    shr-u32-requires
+    enum-told-3
+    enum-told-4
+    returns
+    returns-2
+    returns-3
+    returns-4
+    returns-5
+    returns-6
+    returns-7)

@@ -1,0 +1,19 @@
+-- `scalar::shifts::unsigned_shl` meets its contract. Assumes nothing.
+use borrow.Author.Needs.{needs}
+use Rattle.scalar.proofs.shifts.unsigned_shl.Statement.{statement}
+use Rattle.scalar.proofs.shifts.unsigned_shl.Tie as tie
+
+enum-known-w : tie.Need-enum-known-w
+enum-known-w c = search needs
+
+enum-told : tie.Need-enum-told
+enum-told c = search needs
+
+returns : tie.Need-returns
+returns c = rw (c .before .w .given .1)
+
+returns-2 : tie.Need-returns-2
+returns-2 c = rw (c .enum-told .given .1)
+
+pub unsigned-shl-spec : {M : Type 1} → statement M
+unsigned-shl-spec = tie.close (tie.spec enum-known-w enum-told returns returns-2)

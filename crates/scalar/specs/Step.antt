@@ -1,0 +1,100 @@
+-- Operators by 01's codes on patterns, as the layer above calls them. Assumes nothing.
+use Prim.Native.Nat.{ℕ}
+use mathlib.Core.Bool.{Bool, _&&_, _||_}
+use mathlib.Core.List.{List, [], _∷_}
+use lib.Dec.{eqb, leb}
+use lib.ListN.{getD}
+use Rattle.scalar.specs.declared.Scalar.{Scalar}
+use Rattle.scalar.specs.declared.ShaderStage.{ShaderStage}
+use Rattle.scalar.specs.declared.ShaderStage.the-variants.{Const, Override, Exec}
+use Rattle.scalar.specs.declared.Found.{Found}
+use Rattle.scalar.specs.declared.Found.the-variants as F
+use Rattle.scalar.specs.declared.Pair.{Pair}
+use Rattle.scalar.specs.declared.Step.{Step}
+use Rattle.scalar.specs.declared.Step.the-variants as S
+use Rattle.scalar.specs.declared.Conv.{Conv}
+use Rattle.scalar.specs.declared.Conv.the-variants as C
+pub use Rattle.scalar.specs.Answer.{refusal}
+use Rattle.scalar.specs.Answer.{Result, value, refused, unary, binary}
+use Rattle.scalar.specs.Pattern.{pick}
+use Rattle.scalar.specs.Convert.{typeOf, convertTo}
+use Rattle.scalar.specs.Pair.{bothOf}
+use Rattle.scalar.specs.Scalar.{bitsOf, scalarOf}
+use Rattle.scalar.specs.Unary.{notOf, negOf, bitNotOf}
+use Rattle.scalar.specs.Logical.{orOf, andOf}
+use Rattle.scalar.specs.Arithmetic.{addOf, subOf, mulOf, divOf, remOf}
+use Rattle.scalar.specs.Comparison.{eqOf, neOf, ltOf, leOf, gtOf, geOf}
+use Rattle.scalar.specs.Bits.{bitOrOf, bitAndOf, bitXorOf}
+use Rattle.scalar.specs.Shift.{shlOf, shrOf}
+
+-- "Stages: 0 Const, 1 Override, 2 Exec"
+abbrev pub stageOf : ℕ → ShaderStage
+stageOf code = getD (Const ∷ Override ∷ []) code Exec
+
+-- a result as a type and bits, or a refusal
+abbrev pub stepped : Result → Step
+stepped (value s) = S.Bits (typeOf s) (bitsOf s)
+stepped (refused r) = S.Refused r
+
+-- "1 `!`, 2 `-`, 3 `~`"
+abbrev pub unaries : Scalar → List Result
+unaries s = notOf s ∷ negOf s ∷ bitNotOf s ∷ []
+
+abbrev pub unaryOf : ℕ → Scalar → Result
+unaryOf op s = getD (unary ∷ unaries s) op unary
+
+abbrev pub onScalar : Found → (Scalar → Result) → Result → Result
+onScalar (F.Value s) f other = f s
+onScalar F.Nothing f other = other
+
+unfoldable pub unaryStepOf : ℕ → ℕ → ℕ → Step
+unaryStepOf op ty v = stepped (onScalar (scalarOf ty v) (unaryOf op) unary)
+
+-- "1 `||`, 2 `&&`, 3 to 7 `+ - * / %`, 8 to 13 `== != < <= > >=`, 14 to 16 `| & ^`"
+abbrev pub binaries : ShaderStage → Pair → List Result
+binaries stage p =
+    orOf p ∷ andOf p ∷ addOf stage p ∷ subOf stage p ∷ mulOf stage p ∷ divOf stage p ∷ remOf stage p
+    ∷ eqOf p ∷ neOf p ∷ ltOf p ∷ leOf p ∷ gtOf p ∷ geOf p ∷ bitOrOf p ∷ bitAndOf p ∷ bitXorOf p ∷ []
+
+abbrev pub binaryOf : ℕ → ShaderStage → Pair → Result
+binaryOf op stage p = getD (binary ∷ binaries stage p) op binary
+
+-- "17 `<<`, 18 `>>`"
+abbrev pub shiftOf : ℕ → ShaderStage → Found → Found → Result
+shiftOf op stage l count = onScalar l (λ s. pick (eqb op 17) (shlOf stage s count) (pick (eqb op 18) (shrOf stage s count) binary)) binary
+
+-- an operator on two patterns of one type; a shift's right one is a U32's
+unfoldable pub stepOf : ℕ → ℕ → ℕ → ℕ → ℕ → Step
+stepOf op stage ty l r =
+    pick (leb 17 op)
+    (stepped (shiftOf op (stageOf stage) (scalarOf ty l) (scalarOf 4 r)))
+    (stepped (binaryOf op (stageOf stage) (bothOf (scalarOf ty l) (scalarOf ty r))))
+
+-- a pattern of one type as one of another
+abbrev pub converted : Found → Conv
+converted (F.Value s) = C.Bits (bitsOf s)
+converted F.Nothing = C.Nothing
+
+abbrev pub onFound : Found → (Scalar → Conv) → Conv
+onFound (F.Value s) f = f s
+onFound F.Nothing f = C.Nothing
+
+unfoldable pub convOf : ℕ → ℕ → ℕ → Conv
+convOf from to b = onFound (scalarOf from b) (λ s. converted (convertTo to s))
+
+-- the type's right to a binary operator, after conversion
+abbrev pub rightOf : ℕ → ℕ → Bool
+rightOf op ty =
+    (leb op 2 && eqb ty 0)
+    || (leb 3 op && leb op 7 && leb 1 ty)
+    || (leb 8 op && leb op 9)
+    || (leb 10 op && leb op 13 && leb 1 ty)
+    || (leb 14 op && leb op 15 && (leb ty 1 || eqb ty 3 || eqb ty 4))
+    || (leb 16 op && (eqb ty 1 || eqb ty 3 || eqb ty 4))
+
+-- the type's right to a unary operator
+abbrev pub unaryRightOf : ℕ → ℕ → Bool
+unaryRightOf op ty =
+    (eqb op 1 && eqb ty 0)
+    || (eqb op 2 && leb 1 ty && (leb ty 3 || leb 5 ty))
+    || (eqb op 3 && (eqb ty 1 || eqb ty 3 || eqb ty 4))

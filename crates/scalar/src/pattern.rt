@@ -1,0 +1,51 @@
+// The bits of a scalar, and the scalar of a type and bits.
+use crate::Found;
+use crate::Scalar;
+use integer::patterns;
+ghost use mathlib.Core.Path.{_≡_};
+ghost use Rattle.scalar.specs.Pattern.{keptOf};
+ghost use Rattle.scalar.specs.Scalar.{bitsOf, scalarOf};
+
+// The pattern of an F16 as it is kept.
+fn kept_half(bits: u16) -> u16
+    ensures { λ r. ⌜ r ≡ keptOf 6 bits ⌝ }
+{
+    if 0x7c00 < bits % 0x8000 {
+        return 0x7e00;
+    }
+    bits
+}
+
+// The bits of a scalar.
+pub fn bits_of(s: Scalar) -> u64
+    ensures { λ r. ⌜ r ≡ bitsOf s ⌝ }
+{
+    match s {
+        Scalar::Bool(x) => if x { 1 } else { 0 },
+        Scalar::AbstractInt(x) => patterns::bits_i64(x),
+        Scalar::AbstractFloat(x) => rounding::f64_bits(x),
+        Scalar::I32(x) => patterns::bits_i32(x) as u64,
+        Scalar::U32(x) => x as u64,
+        Scalar::F32(x) => rounding::f32_bits(x) as u64,
+        Scalar::F16(x) => kept_half(x) as u64,
+    }
+}
+
+// The scalar of a type and a pattern, if the pattern is proper.
+pub fn scalar_of(ty: u8, bits: u64) -> Found
+    ensures { λ r. ⌜ r ≡ scalarOf ty bits ⌝ }
+{
+    if !crate::proper(ty, bits) {
+        return Found::Nothing;
+    }
+    match ty {
+        0 => Found::Value(Scalar::Bool(bits == 1)),
+        1 => Found::Value(Scalar::AbstractInt(patterns::i64_of_bits(bits))),
+        2 => Found::Value(Scalar::AbstractFloat(rounding::f64_of_bits(bits))),
+        3 => Found::Value(Scalar::I32(patterns::i32_of_bits(bits as u32))),
+        4 => Found::Value(Scalar::U32(bits as u32)),
+        5 => Found::Value(Scalar::F32(rounding::f32_of_bits(bits as u32))),
+        6 => Found::Value(Scalar::F16(kept_half(bits as u16))),
+        _ => Found::Nothing,
+    }
+}
