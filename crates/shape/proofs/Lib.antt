@@ -1,0 +1,12 @@
+-- The laws of this crate. Assumes nothing.
+pub mod Places
+pub mod Traverse
+pub mod Sums
+pub mod Checks
+pub mod Held
+pub mod Shaped
+pub mod Answers
+pub mod Typed
+pub mod Outcomes
+pub mod Single
+pub mod Cases

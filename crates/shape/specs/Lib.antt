@@ -1,0 +1,5 @@
+pub mod Operand
+pub mod Components
+pub mod Products
+pub mod Pairing
+pub mod Meaning

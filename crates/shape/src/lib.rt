@@ -1,0 +1,105 @@
+// Scalars, vectors and matrices as one flat record, and every operator on them. A scalar's own
+// operations are those of the crate `scalar`, known here by their contracts alone.
+//   operand.rt     which operands are well formed
+//   pairing.rt     which shapes and types an operator takes
+//   components.rt  work component by component
+//   products.rt    sums of products: vector and matrix, matrix and matrix
+//   dispatch.rt    an operator on operands of any shape, check after check
+//   operators.rt   the operators under their own names
+ghost use mathlib.Core.Path.{_≡_};
+ghost use Rattle.shape.specs.Operand.{shapeOk};
+ghost use Rattle.shape.specs.Meaning.{refusedWith, valueOf, unaryMeaning, binaryMeaning};
+
+mod components;
+mod dispatch;
+mod operand;
+mod operators;
+mod pairing;
+mod products;
+
+// A scalar, vector or matrix: its type, columns, rows and components, column by column.
+pub struct Instance {
+    pub ty: u8,
+    pub cols: u8,
+    pub rows: u8,
+    pub comps: [u64; 16],
+}
+
+// An answer: status 0 and a value, or a refusal's number and detail and a value of zeros.
+pub struct Outcome {
+    pub status: u8,
+    pub detail: u32,
+    pub value: Instance,
+}
+
+// A refusal as an answer.
+pub fn refused(status: u8, detail: u32) -> Outcome
+    ensures { λ o. ⌜ o ≡ refusedWith status detail ⌝ }
+{
+    Outcome {
+        status,
+        detail,
+        value: Instance {
+            ty: 0,
+            cols: 0,
+            rows: 0,
+            comps: [0u64; 16],
+        },
+    }
+}
+
+// A value as an answer.
+pub fn answered(value: Instance) -> Outcome
+    ensures { λ o. ⌜ o ≡ valueOf value ⌝ }
+{
+    Outcome {
+        status: 0,
+        detail: 0,
+        value,
+    }
+}
+
+// Whether a type is known and has the shape.
+pub fn shape_ok(ty: u8, cols: u8, rows: u8) -> bool
+    ensures { λ r. ⌜ r ≡ shapeOk ty cols rows ⌝ }
+{
+    (ty <= 6)
+        & (1 <= rows)
+        & (rows <= 4)
+        & ((cols == 1) | (2 <= cols) & (cols <= 4) & (2 <= rows) & ((ty == 2) | (5 <= ty)))
+}
+
+// The unary operator of a code, on any operand: operator and stage are judged first, then the operand.
+pub fn unary(op: u8, stage: u8, v: Instance) -> Outcome
+    ensures { λ o. ⌜ o ≡ unaryMeaning op stage v ⌝ }
+{
+    if !pairing::unary_known(op) {
+        return refused(25, 0);
+    }
+    if !pairing::stage_known(stage) {
+        return refused(23, 0);
+    }
+    if !operand::good(v) {
+        return refused(26, 0);
+    }
+    dispatch::unary_judge(op, v)
+}
+
+// The binary operator of a code, on any operands: operator and stage are judged first, then the operands, left first.
+pub fn binary(op: u8, stage: u8, l: Instance, r: Instance) -> Outcome
+    ensures { λ o. ⌜ o ≡ binaryMeaning op stage l r ⌝ }
+{
+    if !pairing::op_known(op) {
+        return refused(25, 0);
+    }
+    if !pairing::stage_known(stage) {
+        return refused(23, 0);
+    }
+    if !operand::good(l) {
+        return refused(26, 0);
+    }
+    if !operand::good(r) {
+        return refused(26, 0);
+    }
+    dispatch::judge(op, stage, l, r)
+}
