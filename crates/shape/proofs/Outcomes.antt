@@ -56,7 +56,7 @@ module _ (op stage : ℕ) (v : Instance) (g : goodOf v ≡ true) where
       needed (not (isMatrix (shapeOf v))) 1 _ (omega arith) (omega arith)
       (needed (unaryRightOf op (v .ty)) 1 _ (omega arith) (omega arith)
       (answering (worked (unaryAt op (v .ty) (v .comps)) (countOf (shapeOf v))) (v .ty) (shapeOf v) (good-shaped v g)
-        (unary-held op (v .ty) (v .comps) (countOf (shapeOf v)) (count-small (shapeOf v) (good-small v g)))))
+      (unary-held op (v .ty) (v .comps) (countOf (shapeOf v)) (count-small (shapeOf v) (good-small v g)))))
 
   pub unary-answers : unaryKnown op ≡ true → stageKnown stage ≡ true → Answers (unaryMeaning op stage v)
   unfolding unaryMeaning

@@ -83,7 +83,7 @@ module _ (stage ty : ℕ) (a b : Shape) (xs ys : List ℕ) (low : ty ≤ 6) (sa 
       answering (worked (cellAt stage ty xs ys (a .rows) (a .cols)) (a .rows * b .cols)) ty (record { cols = b .cols; rows = a .rows })
       (record { known = low; small = (sb .0, sb .1, sa .2, sa .3); matrix = λ z. m h })
       (recount (Fine ty) (a .rows * b .cols) (b .cols * a .rows) (worked (cellAt stage ty xs ys (a .rows) (a .cols)) (a .rows * b .cols)) (mul-comm (a .rows) (b .cols))
-        (cells-held stage ty xs ys (a .rows) (a .cols) (a .rows * b .cols) (mul-le-mul (sa .3) (sb .1))))
+      (cells-held stage ty xs ys (a .rows) (a .cols) (a .rows * b .cols) (mul-le-mul (sa .3) (sb .1))))
 
   multiplied-answers : Answers (multiplied stage ty a xs b ys)
   unfolding multiplied
@@ -117,7 +117,7 @@ module _ (op stage lt rt x y : ℕ) (a b : Shape) (ha : Shaped lt a) (hb : Shape
       record {
         known = go (leb 8 op && leb op 13);
         small = small;
-        matrix = λ h. let o : op < 8 = omega (arith, f h .1) in (f h .0, rw (lt-leb 8 op o) (f h .2))
+        matrix = λ h. let o : op < 8 = omega (arith, f h .1) in (f h .0, rw (lt-leb 8 op o) (f h .2));
       }
     where
       go : (t : Bool) → pick t 0 x ≤ 6
