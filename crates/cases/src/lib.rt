@@ -1,13 +1,8 @@
 // The records of a list of fixed answers, read one at a time, and the count of those that are right.
-mod field;
 mod list;
 mod operand;
 mod tally;
 
-pub use field::byte;
-pub use field::number;
-pub use field::part;
-pub use field::word;
 pub use list::next;
 pub use list::open;
 pub use operand::Operand;

@@ -1,6 +1,6 @@
 // The file that holds a list.
 ghost use Rattle.io.specs.Counts.{Counts};
-use crate::field::number;
+use fields::number;
 use libc::STDOUT_FILENO;
 
 // Opens the list that the program's argument i names. Where it cannot, it says so and answers a number below 0.

@@ -52,12 +52,14 @@ pub fn ended(t: Tally) -> Tally
     }
 }
 
+// Names a wrong case, where few were wrong before it.
 fn name_wrong(t: Tally) {
     if std::num::wrapping_sub_u64(t.cases, t.right) < 5 {
         line(b"wrong ", t.cases);
     }
 }
 
+// A word and a number on a line.
 fn line(what: &[u8], n: u64) {
     io::write_all(STDOUT_FILENO, what);
     io::print_decimal(STDOUT_FILENO, n);

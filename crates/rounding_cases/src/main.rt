@@ -13,10 +13,12 @@ fn signed(x: u64) -> i64 {
     }
 }
 
+// The low 32 bits of a pattern.
 fn word(x: u64) -> u32 {
     (x % 0x1_0000_0000) as u32
 }
 
+// The low 16 bits of a pattern.
 fn half(x: u64) -> u16 {
     (x % 0x1_0000) as u16
 }
@@ -53,13 +55,13 @@ fn is_right(kind: u8, record: &[u8]) -> bool {
     if 12 < kind {
         return false;
     }
-    let x = cases::number(cases::part(record, 8, 8));
+    let x = fields::number(fields::part(record, 8, 8));
     let answer = if kind < 8 {
         rounded(kind, x)
     } else {
         kept(kind, x)
     };
-    answer == cases::number(cases::part(record, 16, 8))
+    answer == fields::number(fields::part(record, 16, 8))
 }
 
 // One more of a kind.
@@ -99,6 +101,7 @@ fn run(fd: i32, all: &mut [u64; 13], right: &mut [u64; 13]) -> Tally {
     t
 }
 
+// One kind's counts on a line, where it has cases.
 fn say_kind(kind: u64, all: u64, right: u64) {
     if all == 0 {
         return;

@@ -1,7 +1,7 @@
 -- Every operator on sound operands gives a sound scalar of the right type or one of 01's refusals. Assumes nothing.
-use Prim.Native.Nat.{ℕ, zero, suc, _+_, _-_, _*_, _/_, _%_, _^_, _<_, _≤_}
-use mathlib.Core.Path.{_≡_, refl, sym, ap, subst, _∙_}
-use mathlib.Core.Bool.{Bool, true, false, not, _||_, _&&_}
+use Prim.Native.Nat.{ℕ, _+_, _-_, _*_, _/_, _%_, _^_, _<_, _≤_}
+use mathlib.Core.Path.{_≡_, refl, sym, subst}
+use mathlib.Core.Bool.{Bool, true, false, not, _||_}
 use native.Mathlib.Omega.{arith}
 use lib.Dec.{T, eqb, ltb, leb}
 use lib.Bits.{bitAnd, bitOr, bitXor}
@@ -11,7 +11,7 @@ use lib.Ieee.{Float, Format, binary32, binary64, fits, neg}
 use lib.Ieee.Fits.{add-fits, sub-fits, mul-fits, div-fits, rem-fits, neg-fits}
 use borrow.Author.Tests.{ltb-true, ltb-false, not-false}
 use mir.Syntax.{Width, w16, w32, w64}
-use mir.Val.{Fits, SFits, bits, toZ, ofZ}
+use mir.Val.{Fits, SFits, ofZ}
 use mir.ValLaws.{toZ-fits, sfits-le, fits-div, fits-mod, fits-not, fits-and, fits-or, fits-xor}
 use Rattle.integer.specs.Range.{pick, inSigned, inUnsigned, wholeOf}
 use Rattle.integer.specs.Wrap.{wrapS, wrapU, notZ}
@@ -35,41 +35,42 @@ use Rattle.scalar.specs.declared.Found.{Found}
 use Rattle.scalar.specs.declared.Found.the-variants.{Value, Nothing}
 use Rattle.scalar.specs.declared.Pair.{Pair}
 use Rattle.scalar.specs.declared.Pair.the-variants as P
-use Rattle.scalar.specs.Answer.{Result, value, refused, refusal, answerOf, unary, binary, strict}
+use Rattle.scalar.specs.Answer.{Result, value, refused, refusal, answerOf, strict}
 use Rattle.scalar.specs.Convert.{typeOf, finiteOf}
 use Rattle.scalar.specs.Arithmetic.{inExec, finiteOr, settled, wholeOr, halfOf, arithmetic, addOf, subOf, mulOf, noDiv, divOf, noRem, remOf}
 use Rattle.scalar.specs.Logical.{logical}
 use Rattle.scalar.specs.Comparison.{equality, order, numbersOf}
 use Rattle.scalar.specs.Unary.{notOf, negOf, bitNotOf}
 use Rattle.scalar.specs.Bits.{onBits, bitwise, bitOrOf, bitAndOf, bitXorOf}
-use Rattle.scalar.specs.Shift.{shlExact, shlWrapped, shrExact, shrReduced, shlBy, shrBy, byScalar, byCount, shlOf, shrOf}
+use Rattle.scalar.specs.Shift.{shlExact, shlWrapped, shrExact, shrReduced, shlBy, shrBy, byCount, shlOf, shrOf}
 use Rattle.scalar.proofs.Sound.{Sound, Couple, bits-fit}
 use Rattle.scalar.proofs.Negated.{sign-set, sign-cleared, half-nan}
 
--- a refusal: its number 1 to 10, its detail 0 but for the shifts'
+-- a refusal: its number 1, 2 or 4 to 10, its detail 0 but for the shifts'
 pub record Refuses (r : Refusal) : Type 0 where
   pub low : 1 ≤ r .number
   pub high : r .number ≤ 10
+  pub shapeless : r .number ≡ 3 → ⊥
   pub plain : (r .number ≡ 9 → ⊥) → (r .number ≡ 10 → ⊥) → r .detail ≡ 0
 
 abbrev pub Kept : ℕ → Result → Type 0
 Kept ty (value s) = (typeOf s ≡ ty) × Sound s
 Kept ty (refused r) = Refuses r
 
-plainly : (n : ℕ) → 1 ≤ n → n ≤ 10 → Refuses (refusal n 0)
-plainly n l h = record { low = l; high = h; plain = λ a b. refl }
+plainly : (n : ℕ) → 1 ≤ n → n ≤ 10 → (n ≡ 3 → ⊥) → Refuses (refusal n 0)
+plainly n l h s = record { low = l; high = h; shapeless = s; plain = λ a b. refl }
 
 pub no-unary : Refuses (refusal 1 0)
-no-unary = plainly 1 (omega arith) (omega arith)
+no-unary = plainly 1 (omega arith) (omega arith) (λ e. omega arith)
 
 pub no-binary : Refuses (refusal 2 0)
-no-binary = plainly 2 (omega arith) (omega arith)
+no-binary = plainly 2 (omega arith) (omega arith) (λ e. omega arith)
 
 over-left : (n : ℕ) → Refuses (refusal 9 n)
-over-left n = record { low = omega arith; high = omega arith; plain = λ a b. absurd (a refl) }
+over-left n = record { low = omega arith; high = omega arith; shapeless = λ e. omega arith; plain = λ a b. absurd (a refl) }
 
 over-right : (n : ℕ) → Refuses (refusal 10 n)
-over-right n = record { low = omega arith; high = omega arith; plain = λ a b. absurd (b refl) }
+over-right n = record { low = omega arith; high = omega arith; shapeless = λ e. omega arith; plain = λ a b. absurd (b refl) }
 
 -- ---- by a test
 pub chosen : (ty : ℕ) (t : Bool) (a b : Result) → (t ≡ true → Kept ty a) → (t ≡ false → Kept ty b) → Kept ty (pick t a b)
@@ -151,19 +152,19 @@ rem-fit : (g : Format) (x y : Float) → T (fits g x) → T (fits g (rem (of g) 
 rem-fit g x y f = subst (λ (v : Float). T (fits g v)) (rem-is g x y) (rem-fits g x y f)
 
 pub add-kept : (stage : ShaderStage) (ty : ℕ) (p : Pair) → Couple ty p → Kept ty (addOf stage p)
-add-kept = arithmetic-kept _+ℤ_ add add-fit (answerOf AddOverflow) (λ ty. plainly 4 (omega arith) (omega arith))
+add-kept = arithmetic-kept _+ℤ_ add add-fit (answerOf AddOverflow) (λ ty. plainly 4 (omega arith) (omega arith) (λ e. omega arith))
 
 pub sub-kept : (stage : ShaderStage) (ty : ℕ) (p : Pair) → Couple ty p → Kept ty (subOf stage p)
-sub-kept = arithmetic-kept _-ℤ_ sub sub-fit (answerOf SubOverflow) (λ ty. plainly 5 (omega arith) (omega arith))
+sub-kept = arithmetic-kept _-ℤ_ sub sub-fit (answerOf SubOverflow) (λ ty. plainly 5 (omega arith) (omega arith) (λ e. omega arith))
 
 pub mul-kept : (stage : ShaderStage) (ty : ℕ) (p : Pair) → Couple ty p → Kept ty (mulOf stage p)
-mul-kept = arithmetic-kept _*ℤ_ mul mul-fit (answerOf MulOverflow) (λ ty. plainly 6 (omega arith) (omega arith))
+mul-kept = arithmetic-kept _*ℤ_ mul mul-fit (answerOf MulOverflow) (λ ty. plainly 6 (omega arith) (omega arith) (λ e. omega arith))
 
 no-div : Refuses (refusal 7 0)
-no-div = plainly 7 (omega arith) (omega arith)
+no-div = plainly 7 (omega arith) (omega arith) (λ e. omega arith)
 
 no-rem : Refuses (refusal 8 0)
-no-rem = plainly 8 (omega arith) (omega arith)
+no-rem = plainly 8 (omega arith) (omega arith) (λ e. omega arith)
 
 pub div-kept : (stage : ShaderStage) (ty : ℕ) (p : Pair) → Couple ty p → Kept ty (divOf stage p)
 div-kept stage ty (P.Bool x y) h = no-binary

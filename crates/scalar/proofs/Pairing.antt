@@ -14,7 +14,7 @@ use Rattle.scalar.specs.declared.Found.{Found}
 use Rattle.scalar.specs.declared.Found.the-variants.{Value, Nothing}
 use Rattle.scalar.specs.declared.Pair.{Pair}
 use Rattle.scalar.specs.declared.Pair.the-variants.{None}
-use Rattle.scalar.specs.Pair.{cases, none, bothOf}
+use Rattle.scalar.specs.Pair.{cases, bothOf}
 use Rattle.scalar.specs.Convert.{whenFinite, fromFloat, typeOf, convertTo, goesTo, commonOf}
 use Rattle.scalar.proofs.Choice.{picked, passed}
 

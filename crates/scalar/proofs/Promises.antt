@@ -4,7 +4,7 @@ use mathlib.Core.Path.{_≡_, refl, sym, ap, subst, _∙_}
 use mathlib.Core.Bool.{Bool, true, false, not, _&&_, _||_, Bool·beq, false≢true}
 use mathlib.Core.List.{List, [], _∷_}
 use native.Mathlib.Omega.{arith}
-use lib.Dec.{T, eqb, leb, ltb}
+use lib.Dec.{eqb, leb, ltb}
 use lib.IntN.{ℤ, pos, negsuc, natAbs}
 use lib.Signed.{ltZ, leZ}
 use lib.ListN.{getD}
@@ -12,12 +12,12 @@ use lib.Ieee as Ieee
 use lib.Ieee.{Float, Format, binary32, binary64, nan, inf, fin, isNan, nanBits, fits}
 use lib.Ieee.Bits.{nanBits-is, nanBits-above}
 use borrow.Author.Tests.{eqb-true, ltb-true, ltb-false, leb-true, lt-leb}
-use mir.Syntax.{w16, w32, w64}
-use mir.Val.{Fits, SFits, toZ, ofZ}
+use mir.Syntax.{w32, w64}
+use mir.Val.{Fits, toZ}
 use mir.ValLaws.{ofZ-toZ}
 use Rattle.integer.specs.Quotient.{eqZ}
 use Rattle.integer.specs.Range.{inSigned}
-use Rattle.rounding.specs.Kind.{Kind, half, single, double, convert, ofInteger}
+use Rattle.rounding.specs.Kind.{half, single, double, convert, ofInteger}
 use Rattle.rounding.specs.Arithmetic.{lt, eq}
 use Rattle.rounding.specs.Bits.{toBits, ofBits, signed, full, hidden, finite}
 use Rattle.rounding.proofs.Same.{of, ofBits-is}

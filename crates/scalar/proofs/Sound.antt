@@ -1,12 +1,10 @@
 -- A scalar that its type holds, and its pattern: proper, and a NaN only as kept. Assumes nothing.
-use Prim.Native.Nat.{ℕ, zero, suc, _-_, _<_, _≤_}
+use Prim.Native.Nat.{ℕ, zero, suc, _-_, _<_}
 use mathlib.Core.Path.{_≡_, refl, sym, ap, subst, _∙_}
 use mathlib.Core.Bool.{Bool, true, false, not, _||_}
 use native.Mathlib.Omega.{arith}
 use lib.Dec.{T, ltb, eqb}
 use lib.IntN.{ℤ, pos, negsuc}
-use lib.Signed.{mag}
-use lib.Ieee as Ieee
 use lib.Ieee.{Float, Format, binary32, binary64, nan, inf, fin, isNan, nanBits, fits}
 use lib.Ieee.Bits.{toBits-lt, ofBits-fits, nanBits-above}
 use borrow.Author.Tests.{lt-ltb, ltb-true, ltb-false}

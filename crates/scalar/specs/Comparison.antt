@@ -1,5 +1,4 @@
 -- 01, Operators: comparisons of two operands of one type. Assumes nothing.
-use Prim.Native.Nat.{ℕ}
 use mathlib.Core.Bool.{Bool, not, _||_, Bool·beq}
 use lib.IntN.{ℤ, pos}
 use lib.Signed.{ltZ, leZ}
@@ -8,7 +7,6 @@ use Rattle.integer.specs.Quotient.{eqZ}
 use Rattle.rounding.specs.Kind.{half}
 use Rattle.rounding.specs.Arithmetic.{lt, eq}
 use Rattle.rounding.specs.Bits.{ofBits}
-use Rattle.scalar.specs.declared.Scalar.{Scalar}
 use Rattle.scalar.specs.declared.Scalar.the-variants.{Bool as bool}
 use Rattle.scalar.specs.declared.Pair.{Pair}
 use Rattle.scalar.specs.declared.Pair.the-variants as P

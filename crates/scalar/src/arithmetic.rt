@@ -86,7 +86,7 @@ fn unsigned_quotient_or(q: UnsignedQuotient, other: Answer) -> Answer
 }
 
 // `+` on two operands of one type.
-pub fn add_pair(stage: ShaderStage, p: Pair) -> Answer
+pub(crate) fn add_pair(stage: ShaderStage, p: Pair) -> Answer
     ensures { λ a. ⌜ answerOf a ≡ addOf stage p ⌝ }
 {
     let why = Answer::AddOverflow;
@@ -107,7 +107,7 @@ pub fn add_pair(stage: ShaderStage, p: Pair) -> Answer
 }
 
 // `-` on two operands of one type.
-pub fn sub_pair(stage: ShaderStage, p: Pair) -> Answer
+pub(crate) fn sub_pair(stage: ShaderStage, p: Pair) -> Answer
     ensures { λ a. ⌜ answerOf a ≡ subOf stage p ⌝ }
 {
     let why = Answer::SubOverflow;
@@ -128,7 +128,7 @@ pub fn sub_pair(stage: ShaderStage, p: Pair) -> Answer
 }
 
 // `*` on two operands of one type.
-pub fn mul_pair(stage: ShaderStage, p: Pair) -> Answer
+pub(crate) fn mul_pair(stage: ShaderStage, p: Pair) -> Answer
     ensures { λ a. ⌜ answerOf a ≡ mulOf stage p ⌝ }
 {
     let why = Answer::MulOverflow;
@@ -149,7 +149,7 @@ pub fn mul_pair(stage: ShaderStage, p: Pair) -> Answer
 }
 
 // `/` on two operands of one type.
-pub fn div_pair(stage: ShaderStage, p: Pair) -> Answer
+pub(crate) fn div_pair(stage: ShaderStage, p: Pair) -> Answer
     ensures { λ a. ⌜ answerOf a ≡ divOf stage p ⌝ }
 {
     let why = Answer::DivByZero;
@@ -181,7 +181,7 @@ pub fn div_pair(stage: ShaderStage, p: Pair) -> Answer
 }
 
 // `%` on two operands of one type.
-pub fn rem_pair(stage: ShaderStage, p: Pair) -> Answer
+pub(crate) fn rem_pair(stage: ShaderStage, p: Pair) -> Answer
     ensures { λ a. ⌜ answerOf a ≡ remOf stage p ⌝ }
 {
     let why = Answer::RemZeroDiv;

@@ -9,7 +9,7 @@ ghost use Rattle.scalar.specs.Bits.{bitAndOf, bitOrOf, bitXorOf};
 ghost use Rattle.scalar.specs.Convert.{commonOf};
 
 // `|` on two operands of one type.
-pub fn bitor_pair(p: Pair) -> Answer
+pub(crate) fn bitor_pair(p: Pair) -> Answer
     ensures { λ a. ⌜ answerOf a ≡ bitOrOf p ⌝ }
 {
     match p {
@@ -25,7 +25,7 @@ pub fn bitor_pair(p: Pair) -> Answer
 }
 
 // `&` on two operands of one type.
-pub fn bitand_pair(p: Pair) -> Answer
+pub(crate) fn bitand_pair(p: Pair) -> Answer
     ensures { λ a. ⌜ answerOf a ≡ bitAndOf p ⌝ }
 {
     match p {
@@ -41,7 +41,7 @@ pub fn bitand_pair(p: Pair) -> Answer
 }
 
 // `^` on two operands of one type; Bool has none.
-pub fn bitxor_pair(p: Pair) -> Answer
+pub(crate) fn bitxor_pair(p: Pair) -> Answer
     ensures { λ a. ⌜ answerOf a ≡ bitXorOf p ⌝ }
 {
     match p {

@@ -31,7 +31,7 @@ fn numbers(p: Pair) -> Numbers
 }
 
 // `==` on two operands of one type.
-pub fn eq_pair(p: Pair) -> Answer
+pub(crate) fn eq_pair(p: Pair) -> Answer
     ensures { λ a. ⌜ answerOf a ≡ eqOf p ⌝ }
 {
     match numbers(p) {
@@ -43,7 +43,7 @@ pub fn eq_pair(p: Pair) -> Answer
 }
 
 // `!=` on two operands of one type.
-pub fn ne_pair(p: Pair) -> Answer
+pub(crate) fn ne_pair(p: Pair) -> Answer
     ensures { λ a. ⌜ answerOf a ≡ neOf p ⌝ }
 {
     match numbers(p) {
@@ -55,7 +55,7 @@ pub fn ne_pair(p: Pair) -> Answer
 }
 
 // `<` on two operands of one type.
-pub fn lt_pair(p: Pair) -> Answer
+pub(crate) fn lt_pair(p: Pair) -> Answer
     ensures { λ a. ⌜ answerOf a ≡ ltOf p ⌝ }
 {
     match numbers(p) {
@@ -67,7 +67,7 @@ pub fn lt_pair(p: Pair) -> Answer
 }
 
 // `<=` on two operands of one type.
-pub fn le_pair(p: Pair) -> Answer
+pub(crate) fn le_pair(p: Pair) -> Answer
     ensures { λ a. ⌜ answerOf a ≡ leOf p ⌝ }
 {
     match numbers(p) {
@@ -79,7 +79,7 @@ pub fn le_pair(p: Pair) -> Answer
 }
 
 // `>` on two operands of one type.
-pub fn gt_pair(p: Pair) -> Answer
+pub(crate) fn gt_pair(p: Pair) -> Answer
     ensures { λ a. ⌜ answerOf a ≡ gtOf p ⌝ }
 {
     match numbers(p) {
@@ -91,7 +91,7 @@ pub fn gt_pair(p: Pair) -> Answer
 }
 
 // `>=` on two operands of one type.
-pub fn ge_pair(p: Pair) -> Answer
+pub(crate) fn ge_pair(p: Pair) -> Answer
     ensures { λ a. ⌜ answerOf a ≡ geOf p ⌝ }
 {
     match numbers(p) {

@@ -9,7 +9,7 @@ ghost use Rattle.scalar.specs.Logical.{andOf, orOf};
 ghost use Rattle.scalar.specs.Pair.{pairOf};
 
 // `||` on two operands of one type.
-pub fn or_pair(p: Pair) -> Answer
+pub(crate) fn or_pair(p: Pair) -> Answer
     ensures { λ a. ⌜ answerOf a ≡ orOf p ⌝ }
 {
     match p {
@@ -25,7 +25,7 @@ pub fn or_pair(p: Pair) -> Answer
 }
 
 // `&&` on two operands of one type.
-pub fn and_pair(p: Pair) -> Answer
+pub(crate) fn and_pair(p: Pair) -> Answer
     ensures { λ a. ⌜ answerOf a ≡ andOf p ⌝ }
 {
     match p {

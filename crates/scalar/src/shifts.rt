@@ -75,7 +75,7 @@ fn shl_wrapped(l: Scalar, n: u32) -> Answer
 }
 
 // l to the left by a count, which has to be a U32.
-pub fn shl(stage: ShaderStage, l: Scalar, count: Found) -> Answer
+pub(crate) fn shl(stage: ShaderStage, l: Scalar, count: Found) -> Answer
     ensures { λ a. ⌜ answerOf a ≡ shlOf stage l count ⌝ }
 {
     let Found::Value(s) = count else {
@@ -135,7 +135,7 @@ fn shr_reduced(l: Scalar, n: u32) -> Answer
 }
 
 // l to the right by a count, which has to be a U32.
-pub fn shr(stage: ShaderStage, l: Scalar, count: Found) -> Answer
+pub(crate) fn shr(stage: ShaderStage, l: Scalar, count: Found) -> Answer
     ensures { λ a. ⌜ answerOf a ≡ shrOf stage l count ⌝ }
 {
     let Found::Value(s) = count else {

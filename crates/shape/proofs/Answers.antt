@@ -23,9 +23,11 @@ pub record Value (o : Outcome) : Type 0 where
   pub shape : shapeOk (o .value .ty) (o .value .cols) (o .value .rows) ≡ true
   pub parts : Kept (Fine (o .value .ty)) (countOf (shapeOf (o .value))) (o .value .comps)
 
--- a refusal: an operator's number and detail, and zeros
+-- a refusal: a number from 1 to 10, detail 0 but for the shifts', and zeros
 pub record Refusing (o : Outcome) : Type 0 where
-  pub refuses : Refuses (record { number = o .status; detail = o .detail })
+  pub low : 1 ≤ o .status
+  pub high : o .status ≤ 10
+  pub plain : (o .status ≡ 9 → ⊥) → (o .status ≡ 10 → ⊥) → o .detail ≡ 0
   pub zeros : o ≡ refusedWith (o .status) (o .detail)
 
 abbrev pub Answers : Outcome → Type 0
@@ -33,10 +35,10 @@ Answers o = Value o ⊎ Refusing o
 
 -- ---- check after check
 refusing : (r : Refusal) → Refuses r → Answers (refusedWith (r .number) (r .detail))
-refusing r h = inr (record { refuses = record { low = h .low; high = h .high; plain = h .plain }; zeros = refl })
+refusing r h = inr (record { low = h .low; high = h .high; plain = h .plain; zeros = refl })
 
 pub numbered : (n : ℕ) → 1 ≤ n → n ≤ 3 → Answers (refusedWith n 0)
-numbered n h k = inr (record { refuses = record { low = h; high = omega arith; plain = λ a b. refl }; zeros = refl })
+numbered n h k = inr (record { low = h; high = omega arith; plain = λ a b. refl; zeros = refl })
 
 pub needed : (b : Bool) (n : ℕ) (o : Outcome) → 1 ≤ n → n ≤ 3 → Answers o → Answers (need b n o)
 needed true n o h k f = f

@@ -3,11 +3,6 @@ use mathlib.Core.Path.{_≡_, refl}
 use mathlib.Core.List.{List, [], _∷_, _++_, map}
 use Prim.Native.Nat.{ℕ, _-_}
 use lib.ListN.{length, replicate}
-use Rattle.integer.specs.Wrap.{wrapU, wrapS}
-use Rattle.rounding.specs.Arithmetic.{sum, add, sub, mul, div, rem, eq, lt}
-use Rattle.rounding.specs.Bits.{ofFields, ofBits, toBits}
-use Rattle.rounding.specs.Kind.{unitsIn, roundTo, convert, ofInteger}
-use Rattle.scalar.specs.Convert.{commonOf}
 use Rattle.scalar.specs.Pattern.{keptOf}
 use Rattle.scalar.specs.Step.{stepOf, convOf}
 use Rattle.shape.specs.Operand.{upTo, every, goodOf}
@@ -17,6 +12,10 @@ use Rattle.shape.specs.Pairing.{targetsOf}
 use Rattle.shape.specs.Meaning.{refusedWith, valueOf, compwise, multiplied, typed, convertedTo, judged, binaryMeaning}
 use Rattle.shape.specs.declared.Instance.{Instance}
 use Rattle.shape.specs.declared.Outcome.{Outcome}
+use Rattle.integer.specs.Wrap.{wrapU, wrapS}
+use Rattle.rounding.specs.Arithmetic.{sum, add, mul}
+use Rattle.rounding.specs.Bits.{ofFields, ofBits, toBits}
+use Rattle.rounding.specs.Kind.{unitsIn, roundTo, convert}
 
 -- an operand of a type and shape
 abbrev pub value : ℕ → ℕ → ℕ → List ℕ → Instance
@@ -70,5 +69,5 @@ cases =
     ∷ []
 
 pub table : map (λ (c : Case). binaryMeaning (c .op) (c .stage) (c .left) (c .right)) cases ≡ map (λ (c : Case). c .gives) cases
-unfolding cases wrapU wrapS sum add sub mul div rem eq lt ofFields ofBits toBits unitsIn roundTo convert ofInteger commonOf keptOf stepOf convOf upTo every goodOf through sumTo targetsOf compwise multiplied typed convertedTo judged binaryMeaning
+unfolding cases wrapU wrapS sum add mul ofFields ofBits toBits unitsIn roundTo convert keptOf stepOf convOf upTo every goodOf through sumTo targetsOf compwise multiplied typed convertedTo judged binaryMeaning
 table = refl

@@ -2,17 +2,14 @@
 use mathlib.Core.Path.{_≡_, refl, sym, ap, _∙_}
 use mathlib.Core.Bool.{Bool, true, false, _&&_}
 use mathlib.Core.List.{List, [], _∷_, _++_, append-assoc}
-use mathlib.Core.Logic.{⊎-elim}
 use Prim.Native.Nat.{ℕ, zero, suc, _+_, _-_, _<_}
 use native.Mathlib.Omega.{arith}
-use native.Mathlib.Nat.{eq-or-lt-of-le, le-of-suc-le-suc, not-suc-le-zero}
 use native.Mathlib.Numerals.{add-one}
 use lib.ListN.{length, set, replicate, length-append}
 use lib.Seq.{set-at}
 use Rattle.scalar.specs.declared.Refusal.{Refusal}
 use Rattle.shape.specs.Operand.{upTo, every}
 use Rattle.shape.specs.Components.{Out, got, stop, andThen, through, filled, worked}
-use Rattle.shape.proofs.Places.{both}
 
 -- ---- a list with one component more
 abbrev next : List ℕ → Out ℕ → Out (List ℕ)

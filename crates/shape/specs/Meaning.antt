@@ -4,7 +4,6 @@ use mathlib.Core.Bool.{Bool, true, false, not}
 use mathlib.Core.List.{List}
 use lib.Dec.{eqb}
 use lib.ListN.{replicate}
-use Rattle.scalar.specs.declared.Refusal.{Refusal}
 use Rattle.scalar.specs.Pattern.{pick}
 use Rattle.scalar.specs.Step.{rightOf, unaryRightOf}
 use Rattle.shape.specs.Operand.{shapeOf, isMatrix, countOf, goodOf}

@@ -1,6 +1,6 @@
 -- Which shapes and which types an operator takes. Assumes nothing.
 use Prim.Native.Nat.{ℕ}
-use mathlib.Core.Bool.{Bool, true, false, not, _&&_, _||_}
+use mathlib.Core.Bool.{Bool, not, _&&_, _||_}
 use lib.Dec.{eqb, leb}
 use Rattle.scalar.specs.declared.ShaderStage.{ShaderStage}
 use Rattle.scalar.specs.declared.ShaderStage.the-variants.{Const, Override, Exec}

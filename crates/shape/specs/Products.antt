@@ -1,5 +1,5 @@
 -- Sums of products: vector times matrix, matrix times vector, matrix times matrix. Assumes nothing.
-use Prim.Native.Nat.{ℕ, zero, suc, _+_, _-_, _*_, _/_, _%_}
+use Prim.Native.Nat.{ℕ, zero, suc, _-_, _*_, _/_, _%_}
 use mathlib.Core.List.{List}
 use Rattle.scalar.specs.Step.{stepOf}
 use Rattle.shape.specs.Components.{Out, got, stop, worked, bitsOf, lane, pairAt}

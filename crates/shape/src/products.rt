@@ -7,7 +7,7 @@ use super::components::steps;
 use scalar::Step;
 ghost use mathlib.Core.Path.{_≡_};
 ghost use Prim.Native.Nat.{_-_, _*_, _≤_, _<_};
-ghost use Rattle.shape.specs.Components.{outOf, bitsOf, worked, lane, pairAt, Inside};
+ghost use Rattle.shape.specs.Components.{outOf, bitsOf, worked, lane, Inside};
 ghost use Rattle.scalar.specs.Step.{stepOf};
 ghost use Rattle.shape.specs.Products.{plusNext, plusOne, plusAll, dotOf, cellAt, timesRow, vectorMatrix};
 

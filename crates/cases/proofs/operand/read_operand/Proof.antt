@@ -1,82 +1,47 @@
--- `cases::operand::read_operand` meets its contract, and its loop ends.
+-- `cases::operand::read_operand` meets its contract.
+use Rattle.cases.proofs.Reading.{fields-read}
 use borrow.Author.Needs.{needs}
-use mathlib.Core.Path.{_≡_, refl}
-use lib.ListN.{length, take, length-set}
-use Rattle.cases.specs.Operands.{componentIn, operandIn, tab}
-use Rattle.cases.proofs.Components.{tab-more, tab-all}
-use native.Mathlib.Omega.{arith}
-use Prim.Native.Nat.{_-_, _≤_}
 use Rattle.cases.proofs.operand.read_operand.Statement.{statement}
 use Rattle.cases.proofs.operand.read_operand.Tie as tie
 
-abbrev Inv-loop : tie.InvT-loop
-Inv-loop s comps₀ i₀ comps i = (length comps ≡ 16) × (i ≤ 16) × (take i comps ≡ tab (componentIn s) i)
+byte-requires : tie.Need-byte-requires
+byte-requires c κs = search needs
 
-abbrev μ-loop : tie.MeasureT-loop
-μ-loop s comps₀ i₀ comps i = 16 - i
+cast-part : tie.Need-cast-part
+cast-part c = search needs
 
-loop-holds : tie.Need-loop-holds Inv-loop μ-loop
-unfolding tab
-loop-holds c = (search needs, omega arith, refl)
+mul-part : tie.Need-mul-part
+mul-part c = search needs
 
-component-requires : tie.Need-component-requires Inv-loop μ-loop
-component-requires c κs = omega arith
+part-requires : tie.Need-part-requires
+part-requires c κs = search needs
 
-mul-comps : tie.Need-mul-comps Inv-loop μ-loop
-mul-comps c = omega arith
+numbers-requires : tie.Need-numbers-requires
+numbers-requires c κs = search needs
 
-array-write-comps : tie.Need-array-write-comps Inv-loop μ-loop
-array-write-comps c = omega arith
+byte-requires-2 : tie.Need-byte-requires-2
+byte-requires-2 c κs = search needs
 
-add-i : tie.Need-add-i Inv-loop μ-loop
-add-i c = omega arith
+byte-requires-3 : tie.Need-byte-requires-3
+byte-requires-3 c κs = search needs
 
-loop-less : tie.Need-loop-less Inv-loop μ-loop
-loop-less c = omega arith
+byte-requires-4 : tie.Need-byte-requires-4
+byte-requires-4 c κs = search needs
 
-loop-again : tie.Need-loop-again Inv-loop μ-loop
-loop-again c =
-    let s = c .before .before .before .before .args in
-    let l = c .before .before .loop in
-    let v = c .component in (
-      simp length-set (l .inv .0),
-      omega arith,
-      tab-more (componentIn (s .s .now)) (l .comps) (l .i) (v .result) (omega arith) (l .inv .2) (v .ensures),
-    )
-
-byte-requires : tie.Need-byte-requires Inv-loop μ-loop
-byte-requires c κs = tt
-
-byte-requires-2 : tie.Need-byte-requires-2 Inv-loop μ-loop
-byte-requires-2 c κs = tt
-
-byte-requires-3 : tie.Need-byte-requires-3 Inv-loop μ-loop
-byte-requires-3 c κs = tt
-
-byte-requires-4 : tie.Need-byte-requires-4 Inv-loop μ-loop
-byte-requires-4 c κs = tt
-
-returns : tie.Need-returns Inv-loop μ-loop
-unfolding operandIn
+returns : tie.Need-returns
 returns c =
-    let s = c .before .before .before .before .before .before .before .args in
-    let l = c .before .before .before .before .before .loop in
-    rw (c .before .before .before .byte .ensures, c .before .before .byte2 .ensures, c .before .byte3 .ensures, c .byte4 .ensures, tab-all (componentIn (s .s .now)) (l .comps) (l .i) (l .inv .0) (omega arith) (l .inv .2))
+    fields-read (c .before .before .before .before .before .before .before .args .s .now) (c .before .before .byte2 .result) (c .before .byte3 .result) (c .byte4 .result) (c .before .before .before .before .before .byte .result) (c .before .before .before .numbers .result) _
+    (c .before .before .byte2 .ensures) (c .before .byte3 .ensures) (c .byte4 .ensures) (c .before .before .before .before .before .byte .ensures) (c .before .before .before .numbers .ensures) (c .before .before .before .before .part .ensures)
 
 pub read-operand-spec : {M : Type 1} → statement M
 read-operand-spec =
     tie.close
     (tie.spec
-    Inv-loop
-    μ-loop
-    loop-holds
-    component-requires
-    mul-comps
-    array-write-comps
-    add-i
-    loop-less
-    loop-again
     byte-requires
+    cast-part
+    mul-part
+    part-requires
+    numbers-requires
     byte-requires-2
     byte-requires-3
     byte-requires-4

@@ -1,0 +1,47 @@
+-- `booth::direct::settle` meets its contract.
+use mathlib.Core.Path.{_≡_}
+use lib.ListN.{length}
+use Rattle.booth.proofs.Settled.{wrong-size, refused, written}
+use borrow.Author.Needs.{needs}
+use Rattle.booth.proofs.direct.settle.Statement.{statement}
+use Rattle.booth.proofs.direct.settle.Tie as tie
+
+pack-requires : tie.Need-pack-requires
+pack-requires c κs = search needs
+
+returns : tie.Need-returns
+returns c = wrong-size (c .before .before .before .args .slot .now) (c .before .before .before .args .o) (c .pack .result) (c .before .if1 .taken) (c .pack .ensures)
+
+cast-pack : tie.Need-cast-pack
+cast-pack c = search needs
+
+pack-requires-2 : tie.Need-pack-requires-2
+pack-requires-2 c κs = search needs
+
+returns-2 : tie.Need-returns-2
+returns-2 c = refused (c .before .before .before .before .before .before .args .slot .now) (c .before .before .before .before .before .before .args .o) (c .before .before .pack2 .result) (c .before .before .before .before .if1 .left) (c .before .before .pack2 .ensures) (c .if2 .taken)
+
+put-requires : tie.Need-put-requires
+put-requires c κs = search needs
+
+same-length : tie.Need-same-length
+same-length c = search needs
+
+returns-3 : tie.Need-returns-3
+returns-3 c =
+    let s = c .before .before .before .before .before .before .before .before .before .before .args in
+    let n : length (s .o .value .comps) ≡ 16 = search needs in
+    written (s .slot .now) (s .o) (c .before .before .before .before .before .before .pack2 .result) (c .before .before .before .before .before .before .before .before .if1 .left) (c .before .before .before .before .before .before .pack2 .ensures) (c .before .before .put .last .0) (c .before .before .before .before .if2 .left) n (c .before .before .put .ensures)
+
+pub settle-spec : {M : Type 1} → statement M
+settle-spec =
+    tie.close
+    (tie.spec
+    pack-requires
+    returns
+    cast-pack
+    pack-requires-2
+    returns-2
+    put-requires
+    same-length
+    returns-3)

@@ -1,0 +1,34 @@
+-- The operands and answers of the direct calls, as bytes.
+use Prim.Native.Nat.{ℕ, _+_, _*_}
+use mathlib.Core.Bool.{_&&_}
+use mathlib.Core.List.{List}
+use lib.Dec.{eqb}
+use lib.ListN.{length, getD, take, drop, replicate}
+use Rattle.scalar.specs.Pattern.{pick}
+use Rattle.shape.specs.declared.Instance.{Instance}
+use Rattle.shape.specs.declared.Outcome.{Outcome}
+use Rattle.shape.specs.Operand.{shapeOk}
+use Rattle.slot.specs.Slot.{bytesOf}
+use Rattle.fields.specs.Field.{sixteen}
+use Rattle.booth.specs.Answer.{packed}
+
+-- no operand: its type is unknown and it has no shape, so that it is malformed
+abbrev pub nothing : Instance
+nothing = record { ty = 255; cols = 0; rows = 0; comps = replicate 16 0 }
+
+-- type, columns, rows, then 8 bytes a component, low byte first, as many as the shape has; unused components are 0
+unfoldable pub operandIn : List ℕ → Instance
+operandIn b =
+    pick (shapeOk (getD b 0 0) (getD b 1 0) (getD b 2 0))
+    (pick (eqb (length b) (3 + 8 * (getD b 1 0 * getD b 2 0)))
+    (record { ty = getD b 0 0; cols = getD b 1 0; rows = getD b 2 0; comps = sixteen (take 128 (drop 3 b)) })
+    nothing)
+    nothing
+
+-- ResultsSize if the slot is not 136 bytes; else the status and detail
+unfoldable pub directAnswer : List ℕ → Outcome → ℕ
+directAnswer slot o = pick (eqb (length slot) 136) (packed (o .status) (o .detail)) (packed 30 0)
+
+-- the slot is written on success alone
+unfoldable pub directBytes : List ℕ → Outcome → List ℕ
+directBytes slot o = pick (eqb (length slot) 136 && eqb (o .status) 0) (bytesOf o) slot

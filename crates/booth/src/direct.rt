@@ -1,0 +1,63 @@
+// The direct calls: operands from bytes, and the value into a slot.
+use crate::pack;
+use shape::Instance;
+use shape::Outcome;
+ghost use mathlib.Core.Path.{_≡_};
+ghost use Prim.Native.Nat.{_*_, _≤_};
+ghost use Rattle.booth.specs.Operand.{nothing, operandIn, directAnswer, directBytes};
+
+// How many components a shape has.
+fn area(cols: u8, rows: u8) -> usize
+    ensures { λ r. ⌜ (r ≡ cols * rows) × (r ≤ 65025) ⌝ }
+{
+    (cols as usize) * (rows as usize)
+}
+
+// No operand: its type is unknown and it has no shape.
+fn nothing() -> Instance
+    ensures { λ r. ⌜ r ≡ nothing ⌝ }
+{
+    Instance {
+        ty: 255,
+        cols: 0,
+        rows: 0,
+        comps: [0u64; 16],
+    }
+}
+
+// The operand in bytes: type, columns, rows, and exactly as many components of 8 bytes as the shape has. Any other bytes are malformed.
+pub(crate) fn operand(b: &[u8]) -> Instance
+    ensures { λ r. ⌜ r ≡ operandIn (now (b .entry)) ⌝ }
+{
+    let ty = fields::byte(b, 0);
+    let cols = fields::byte(b, 1);
+    let rows = fields::byte(b, 2);
+    if !shape::shape_ok(ty, cols, rows) {
+        return nothing();
+    }
+    if b.len() != 3 + 8 * area(cols, rows) {
+        return nothing();
+    }
+    let comps = fields::numbers(fields::part(b, 3, 128));
+    Instance {
+        ty,
+        cols,
+        rows,
+        comps,
+    }
+}
+
+// Answers an outcome, and puts its value into a slot where there is one. The slot's size is judged first.
+pub(crate) fn settle(slot: &mut [u8], o: Outcome) -> u64
+    ensures { λ r. ⌜ (r ≡ directAnswer (now (slot .entry)) o) × (now (slot .exit) ≡ directBytes (now (slot .entry)) o) ⌝ }
+{
+    if slot.len() != 136 {
+        return pack(30, 0);
+    }
+    let answer = pack(o.status, o.detail as u64);
+    if o.status != 0 {
+        return answer;
+    }
+    slot::put(slot, 0, o);
+    answer
+}

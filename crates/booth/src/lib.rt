@@ -1,0 +1,82 @@
+// What C calls. A slice is a pointer and a length. An answer is a number in bits 32 to 39 and its detail in bits 0 to 31; the number 0
+// is success. No function has a `requires`.
+mod direct;
+
+use fold::Folded;
+ghost use mathlib.Core.Path.{_≡_};
+ghost use lib.ListN.{length};
+ghost use Rattle.shape.specs.Meaning.{unaryMeaning, binaryMeaning};
+ghost use Rattle.sheet.specs.Sheet.{readSheet, checkedOf};
+ghost use Rattle.fold.specs.Fresh.{foldedOf, freshAnswer, freshBytes};
+ghost use Rattle.fold.specs.Change.{changeAnswer, changeBytes};
+ghost use Rattle.booth.specs.Answer.{packed, packedFold};
+ghost use Rattle.booth.specs.Operand.{operandIn, directAnswer, directBytes};
+
+// A number and its detail in one.
+fn pack(number: u8, detail: u64) -> u64
+    ensures { λ r. ⌜ r ≡ packed number detail ⌝ }
+{
+    (number as u64) * 0x1_0000_0000 + detail % 0x1_0000_0000
+}
+
+// The answer of a call on a sheet in one number.
+fn pack_fold(answer: Folded) -> u64
+    ensures { λ r. ⌜ r ≡ packedFold answer ⌝ }
+{
+    match answer {
+        Folded::Done(n) => pack(0, n as u64),
+        Folded::Refused(number, place) => pack(number, place as u64),
+    }
+}
+
+// A unary operator on an operand's bytes: type, columns, rows, and 8 bytes for each component. The slot takes the value.
+#[no_mangle]
+pub extern "C" fn wgsl_unary(op: u8, stage: u8, operand: &[u8], slot: &mut [u8]) -> u64
+    ensures { λ r. ⌜ (r ≡ directAnswer (now (slot .entry)) (unaryMeaning op stage (operandIn (now (operand .entry)))))
+        × (now (slot .exit) ≡ directBytes (now (slot .entry)) (unaryMeaning op stage (operandIn (now (operand .entry))))) ⌝ }
+{
+    direct::settle(slot, shape::unary(op, stage, direct::operand(operand)))
+}
+
+// A binary operator on the bytes of two operands. The slot takes the value.
+#[no_mangle]
+pub extern "C" fn wgsl_binary(op: u8, stage: u8, left: &[u8], right: &[u8], slot: &mut [u8]) -> u64
+    ensures { λ r. ⌜ (r ≡ directAnswer (now (slot .entry)) (binaryMeaning op stage (operandIn (now (left .entry))) (operandIn (now (right .entry)))))
+        × (now (slot .exit) ≡ directBytes (now (slot .entry)) (binaryMeaning op stage (operandIn (now (left .entry))) (operandIn (now (right .entry))))) ⌝ }
+{
+    let l = direct::operand(left);
+    let r = direct::operand(right);
+    direct::settle(slot, shape::binary(op, stage, l, r))
+}
+
+// Checks a sheet. The detail is the number of entries.
+#[no_mangle]
+pub extern "C" fn sheet_check(sheet: &[u8]) -> u64
+    ensures { λ r. ⌜ r ≡ packedFold (foldedOf (checkedOf (readSheet (now (sheet .entry))))) ⌝ }
+{
+    pack_fold(fold::check(sheet))
+}
+
+// Fresh evaluation of a sheet over its results. The detail is the number of entries.
+#[no_mangle]
+pub extern "C" fn sheet_fresh(sheet: &[u8], results: &mut [u8]) -> u64
+    ensures { λ r. ⌜ (r ≡ packedFold (freshAnswer (readSheet (now (sheet .entry))) (now (results .entry))))
+        × (now (results .exit) ≡ freshBytes (readSheet (now (sheet .entry))) (now (results .entry))) ⌝ }
+{
+    pack_fold(fold::evaluate(sheet, results))
+}
+
+// New content for a setting. The detail is the number of entries that depend on it.
+#[no_mangle]
+pub extern "C" fn sheet_change(
+    sheet: &[u8],
+    results: &mut [u8],
+    entry: u64,
+    ty: u8,
+    bits: u64,
+) -> u64
+    ensures { λ r. ⌜ (r ≡ packedFold (changeAnswer (readSheet (now (sheet .entry))) (now (results .entry)) entry ty bits))
+        × (now (results .exit) ≡ changeBytes (readSheet (now (sheet .entry))) (now (results .entry)) entry ty bits) ⌝ }
+{
+    pack_fold(fold::change(sheet, results, entry, ty, bits))
+}

@@ -1,0 +1,42 @@
+// The changes that a command asks for.
+ghost use Prim.Native.Nat.{_+_, _*_, _^_, _<_};
+use words::Spelled;
+
+// An entry, a type from 0 to 6 and 8 bytes of content; or the number of the first word that is none.
+pub enum Asked {
+    Change(u64, u8, u64),
+    Bad(usize),
+}
+
+// The change that stands in the three words from word k on.
+pub(crate) fn change_at(line: &[u8], k: usize) -> Asked
+    requires { ⌜ k + 2 < 2 ^ 64 ⌝ }
+{
+    let Spelled::Number(entry) = words::decimal(words::word(line, k)) else {
+        return Asked::Bad(k);
+    };
+    let Spelled::Number(ty) = words::decimal(words::word(line, k + 1)) else {
+        return Asked::Bad(k + 1);
+    };
+    if 6 < ty {
+        return Asked::Bad(k + 1);
+    }
+    let Spelled::Number(bits) = words::hex(words::word(line, k + 2)) else {
+        return Asked::Bad(k + 2);
+    };
+    Asked::Change(entry, ty as u8, bits)
+}
+
+// The number of the first word that is none of a change's, among n changes from word `from` on; 0 where there is no such word.
+pub(crate) fn first_bad(line: &[u8], from: usize, n: usize) -> usize
+    requires { ⌜ from + 3 * n < 2 ^ 64 ⌝ }
+{
+    let mut i = 0;
+    while i < n {
+        if let Asked::Bad(k) = change_at(line, from + 3 * i) {
+            return k;
+        }
+        i += 1;
+    }
+    0
+}

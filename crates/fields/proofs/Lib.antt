@@ -1,0 +1,3 @@
+pub mod Ends
+pub mod Sixteen
+pub mod Single

@@ -1,0 +1,82 @@
+// Fields of a string of bytes. A byte past its end reads as 0, so that no place needs a proof.
+ghost use mathlib.Core.Path.{_≡_};
+ghost use Prim.Native.Nat.{_+_, _*_, _<_};
+ghost use lib.ListN.{getD, take, drop};
+ghost use Rattle.fields.specs.Field.{four, eight, nth, sixteen};
+
+// The byte at a place.
+pub fn byte(s: &[u8], at: usize) -> u8
+    ensures { λ r. ⌜ r ≡ getD (now (s .entry)) at 0 ⌝ }
+{
+    if at < s.len() { s[at] } else { 0 }
+}
+
+// The byte at a place, as a number that sums can hold.
+fn wide(s: &[u8], at: usize) -> u64
+    ensures { λ r. ⌜ (r ≡ getD (now (s .entry)) at 0) × (r < 256) ⌝ }
+{
+    byte(s, at) as u64
+}
+
+// The number in the first four bytes.
+fn low_four(s: &[u8]) -> u64
+    ensures { λ r. ⌜ (r ≡ four (now (s .entry)) 0) × (r < 4294967296) ⌝ }
+{
+    wide(s, 0) + 256 * (wide(s, 1) + 256 * (wide(s, 2) + 256 * wide(s, 3)))
+}
+
+// The number in the four bytes after those.
+fn high_four(s: &[u8]) -> u64
+    ensures { λ r. ⌜ (r ≡ four (now (s .entry)) 4) × (r < 4294967296) ⌝ }
+{
+    wide(s, 4) + 256 * (wide(s, 5) + 256 * (wide(s, 6) + 256 * wide(s, 7)))
+}
+
+// The number in the four bytes at a place, low byte first.
+pub fn word(s: &[u8], at: usize) -> u32
+    ensures { λ r. ⌜ r ≡ four (take 4 (drop at (now (s .entry)))) 0 ⌝ }
+{
+    low_four(part(s, at, 4)) as u32
+}
+
+// The number in the first eight bytes, low byte first.
+pub fn number(s: &[u8]) -> u64
+    ensures { λ r. ⌜ r ≡ eight (now (s .entry)) ⌝ }
+{
+    low_four(s) + 0x1_0000_0000 * high_four(s)
+}
+
+// The n bytes at a place, or those of them that are there.
+pub fn part(s: &[u8], at: usize, n: usize) -> &[u8]
+    ensures { λ r. ⌜ now r ≡ take n (drop at (now (s .entry))) ⌝ }
+{
+    if s.len() <= at {
+        return &s[0..0];
+    }
+    if s.len() - at <= n {
+        return &s[at..];
+    }
+    let e = at + n;
+    &s[at..e]
+}
+
+// Number i of those that follow one another in eight bytes each.
+fn nth(s: &[u8], i: usize) -> u64
+    requires { ⌜ i < 16 ⌝ }
+    ensures { λ r. ⌜ r ≡ nth (now (s .entry)) i ⌝ }
+{
+    number(part(s, 8 * i, 8))
+}
+
+// The sixteen numbers of eight bytes from the start of s on.
+pub fn numbers(s: &[u8]) -> [u64; 16]
+    ensures { λ r. ⌜ r ≡ sixteen (now (s .entry)) ⌝ }
+{
+    let mut xs = [0u64; 16];
+    let mut i = 0;
+    while i < 16 {
+        xs[i] = nth(s, i);
+        i += 1;
+    }
+    xs
+}

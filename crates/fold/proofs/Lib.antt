@@ -1,0 +1,9 @@
+pub mod Worked
+pub mod Depend
+pub mod Changes
+pub mod Trees
+pub mod Places
+pub mod Steps
+pub mod Answers
+pub mod Theorems
+pub mod Single

@@ -1,0 +1,125 @@
+-- What is asked of a change holds of what the contracts say, for every accepted sheet.
+use mathlib.Core.Path.{_≡_, refl, sym, ap, _∙_}
+use mathlib.Core.List.{List, []}
+use mathlib.Core.Bool.{Bool, true, false, false≢true}
+use mathlib.Core.Logic.{_≢_}
+use Prim.Native.Nat.{ℕ, _*_, _<_}
+use native.Mathlib.Omega.{arith}
+use lib.Dec.{eqb}
+use lib.ListN.{length, set, length-set}
+use lib.Seq.{getD-set-same, getD-set-other}
+use borrow.Author.Tests.{eq-eqb, eqb-true, eqb-false}
+use Rattle.shape.specs.declared.Instance.{Instance}
+use Rattle.shape.specs.Meaning.{valueOf}
+use Rattle.slot.specs.Slot.{bytesOf}
+use Rattle.slot.proofs.Slots.{bytes-long}
+use Rattle.sheet.specs.Read.{found, need}
+use Rattle.sheet.specs.Tree.{Entry, setting, expression, namesOf}
+use Rattle.sheet.specs.Sheet.{readSheet}
+use Rattle.sheet.proofs.Sheets.{sheet-good}
+use Rattle.fold.specs.declared.Folded.the-variants.{Done}
+use Rattle.fold.specs.Meaning.{entryMeaning}
+use Rattle.fold.specs.Fresh.{entryAt, meansOf, refsOf, worked, fresh, freshBytes}
+use Rattle.fold.specs.Change.{content, isSetting, faultOf, depends, over, changed, tally, changeAnswer, changeBytes}
+use Rattle.fold.specs.Demand.{Changed}
+use Rattle.fold.specs.Inside.{At}
+use Rattle.fold.proofs.Worked.{worked-same}
+use Rattle.fold.proofs.Changes.{Ordered, over-here, over-there, changed-is, changed-only, changed-fresh, all-any, commute}
+use Rattle.fold.proofs.Places.{ordered}
+use Rattle.fold.proofs.Answers.{Fine, fine}
+
+-- the bytes of new content
+abbrev pub contentBytes : ℕ → ℕ → List ℕ
+contentBytes ty bits = bytesOf (valueOf (content ty bits))
+
+-- a setting names nothing
+names-none : (x : Entry) → isSetting x ≡ true → namesOf x ≡ []
+unfolding isSetting namesOf
+names-none (setting v) h = refl
+names-none (expression stage t) h = absurd (false≢true h)
+
+setting-names : (es : List Entry) (i : ℕ) → isSetting (entryAt es i) ≡ true → refsOf es i ≡ []
+unfolding refsOf
+setting-names es i e = names-none (entryAt es i) e
+
+-- the sheet with a setting replaced means the new value there, and elsewhere what it meant
+means-here : (es : List Entry) (i : ℕ) (v : Instance) (l : List ℕ) → i < length es → meansOf (set es i (setting v)) i l ≡ bytesOf (valueOf v)
+unfolding meansOf entryAt entryMeaning
+means-here es i v l h = ap (λ (e : Entry). bytesOf (entryMeaning l e)) (getD-set-same es i (setting v) _ h)
+
+means-there : (es : List Entry) (i : ℕ) (v : Instance) (k : ℕ) (l : List ℕ) → k ≢ i → meansOf (set es i (setting v)) k l ≡ meansOf es k l
+unfolding meansOf entryAt
+means-there es i v k l ne = ap (λ (e : Entry). bytesOf (entryMeaning l e)) (getD-set-other es i k (setting v) _ ne)
+
+-- a sheet that was accepted
+module _ (s : List ℕ) (es : List Entry) (z : ℕ) (good : readSheet s ≡ found es z) where
+  first : At s es 0 0
+  first = record { within = omega arith; end = z; rest = sheet-good s es z good }
+
+  ord : Ordered (meansOf es) (refsOf es)
+  ord = ordered s es first
+
+  -- fresh results do not depend on what the buffer held
+  pub fresh-any : (l r : List ℕ) → length l ≡ 136 * length es → length r ≡ 136 * length es → freshBytes (readSheet s) l ≡ freshBytes (readSheet s) r
+  unfolding freshBytes need fresh
+  fresh-any l r hl hr =
+      rw (good, eq-eqb (length l) (136 * length es) hl, eq-eqb (length r) (136 * length es) hr) (all-any (meansOf es) (refsOf es) ord (length es) l r hl hr)
+
+  module _ (l : List ℕ) (i ty bits : ℕ) (ok : faultOf es (length l) i ty bits ≡ 0) where
+    passed : Fine es (length l) i ty bits
+    passed = fine es (length l) i ty bits ok
+
+    bytes-are : changeBytes (readSheet s) l i ty bits ≡ changed (meansOf es) (refsOf es) i (contentBytes ty bits) (length es) l
+    unfolding changeBytes
+    bytes-are = rw (good, ok)
+
+    answer-is : changeAnswer (readSheet s) l i ty bits ≡ Done (tally (depends (refsOf es) i) (length es))
+    unfolding changeAnswer
+    answer-is = rw (good, ok)
+
+    -- a change that no check refuses answers a count, and count and buffer are what is asked
+    pub demand : (count : ℕ) × (changeAnswer (readSheet s) l i ty bits ≡ Done count)
+        × Changed (meansOf es) (refsOf es) i (contentBytes ty bits) (length es) l (changeBytes (readSheet s) l i ty bits) count
+    demand = (
+      tally (depends (refsOf es) i) (length es),
+      answer-is,
+      rw bytes-are (changed-is (meansOf es) (refsOf es) ord i (length es) (passed .among) (contentBytes ty bits) (bytes-long (valueOf (content ty bits))) l (passed .sized)),
+    )
+
+    -- what is asked leaves one outcome
+    pub demand-only : (r : List ℕ) (count : ℕ) → Changed (meansOf es) (refsOf es) i (contentBytes ty bits) (length es) l r count
+        → (changeAnswer (readSheet s) l i ty bits ≡ Done count) × (changeBytes (readSheet s) l i ty bits ≡ r)
+    demand-only r count p =
+        let w = changed-only (meansOf es) (refsOf es) ord i (length es) (passed .among) (contentBytes ty bits) (bytes-long (valueOf (content ty bits))) l r count (passed .sized) p in
+        (answer-is ∙ ap Done (sym (w .1)), bytes-are ∙ sym (w .0))
+
+    bytes-long-still : length (changeBytes (readSheet s) l i ty bits) ≡ length l
+    bytes-long-still = demand .2 .long ∙ sym (passed .sized)
+
+  -- fresh results become the fresh results of the sheet with that setting replaced
+  pub fresh-again : (l : List ℕ) (i ty bits : ℕ) → length l ≡ 136 * length es → faultOf es (length (fresh es l)) i ty bits ≡ 0
+      → changeBytes (readSheet s) (fresh es l) i ty bits ≡ fresh (set es i (setting (content ty bits))) l
+  unfolding fresh
+  fresh-again l i ty bits long ok =
+      bytes-are (fresh es l) i ty bits ok
+      ∙ changed-fresh (meansOf es) (refsOf es) ord i (length es) among (contentBytes ty bits) (bytes-long (valueOf (content ty bits))) l long
+      ∙ worked-same _ _ (λ k. true) (length es) l (λ k h e r. replaced k (eqb k i) refl r)
+      ∙ ap (λ (n : ℕ). worked (meansOf (set es i (setting (content ty bits)))) (λ k. true) n l) (sym (length-set es i (setting (content ty bits))))
+    where
+      among : i < length es
+      among = passed (fresh es l) i ty bits ok .among
+
+      replaced : (k : ℕ) (b : Bool) → eqb k i ≡ b → (r : List ℕ) → over (meansOf es) i (contentBytes ty bits) k r ≡ meansOf (set es i (setting (content ty bits))) k r
+      replaced k true e r = let q = eqb-true k i e in rw q (over-here (meansOf es) i (contentBytes ty bits) r ∙ sym (means-here es i (content ty bits) r among))
+      replaced k false e r = over-there (meansOf es) i (contentBytes ty bits) k r (eqb-false k i e) ∙ sym (means-there es i (content ty bits) k r (eqb-false k i e))
+
+  -- changes of two different settings commute, from any buffer
+  pub changes-commute : (l : List ℕ) (i ty bits j uy cits : ℕ) → i ≢ j → faultOf es (length l) i ty bits ≡ 0 → faultOf es (length l) j uy cits ≡ 0
+      → changeBytes (readSheet s) (changeBytes (readSheet s) l i ty bits) j uy cits ≡ changeBytes (readSheet s) (changeBytes (readSheet s) l j uy cits) i ty bits
+  changes-commute l i ty bits j uy cits ne p q =
+      bytes-are (changeBytes (readSheet s) l i ty bits) j uy cits (rw (bytes-long-still l i ty bits p) q)
+      ∙ ap (changed (meansOf es) (refsOf es) j (contentBytes uy cits) (length es)) (bytes-are l i ty bits p)
+      ∙ commute (meansOf es) (refsOf es) ord (length es) l (passed l i ty bits p .sized) i j (contentBytes ty bits) (contentBytes uy cits) (passed l i ty bits p .among) (passed l j uy cits q .among) ne
+      (setting-names es i (passed l i ty bits p .setting)) (setting-names es j (passed l j uy cits q .setting)) (bytes-long (valueOf (content ty bits))) (bytes-long (valueOf (content uy cits)))
+      ∙ ap (changed (meansOf es) (refsOf es) i (contentBytes ty bits) (length es)) (sym (bytes-are l j uy cits q))
+      ∙ sym (bytes-are (changeBytes (readSheet s) l j uy cits) i ty bits (rw (bytes-long-still l j uy cits q) p))

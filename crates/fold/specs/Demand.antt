@@ -1,0 +1,30 @@
+-- What is asked of a change, in the words of the demand: which slots it works, which it keeps, and its count.
+use Prim.Native.Nat.{ℕ, _*_, _<_}
+use mathlib.Core.Path.{_≡_}
+use mathlib.Core.Bool.{Bool, true}
+use mathlib.Core.Logic.{_≢_}
+use mathlib.Core.List.{List, List·Memᴰ}
+use lib.ListN.{length}
+use Rattle.slot.specs.Slot.{slot}
+use Rattle.fold.specs.Fresh.{Means}
+use Rattle.fold.specs.Change.{tally}
+
+-- an entry depends on a setting if a chain of references leads there, whatever the answers are
+pub data Leads (refs : ℕ → List ℕ) (i : ℕ) : ℕ → Type 0 where
+  direct : {k : ℕ} → List·Memᴰ i (refs k) → Leads refs i k
+  through : {k j : ℕ} → List·Memᴰ j (refs k) → Leads refs i j → Leads refs i k
+
+-- a test tells which of the first n entries depend on i
+pub record Tells (refs : ℕ → List ℕ) (i n : ℕ) (p : ℕ → Bool) : Type 0 where
+  pub only : (k : ℕ) → k < n → p k ≡ true → Leads refs i k
+  pub all : (k : ℕ) → k < n → Leads refs i k → p k ≡ true
+
+-- after setting i of n entries is changed to the content c over the buffer l: the buffer r and the count.
+-- kept: the other slots of entries that do not depend on it; own: its slot is the content;
+-- works: a dependent's slot is what it means over the slots as they now stand; counted: how many dependents there are
+pub record Changed (m : Means) (refs : ℕ → List ℕ) (i : ℕ) (c : List ℕ) (n : ℕ) (l r : List ℕ) (count : ℕ) : Type 0 where
+  pub long : length r ≡ 136 * n
+  pub kept : (k : ℕ) → k < n → k ≢ i → (Leads refs i k → ⊥) → slot r k ≡ slot l k
+  pub own : slot r i ≡ c
+  pub works : (k : ℕ) → k < n → Leads refs i k → slot r k ≡ m k r
+  pub counted : (p : ℕ → Bool) → Tells refs i n p → count ≡ tally p n

@@ -1,0 +1,5 @@
+pub mod Meaning
+pub mod Fresh
+pub mod Change
+pub mod Demand
+pub mod Inside

@@ -1,0 +1,29 @@
+-- What an entry means over the slots as they stand (01, The sheet: results).
+use Prim.Native.Nat.{ℕ}
+use mathlib.Core.List.{List}
+use lib.Dec.{eqb}
+use Rattle.scalar.specs.Pattern.{pick}
+use Rattle.shape.specs.declared.Outcome.{Outcome}
+use Rattle.shape.specs.Meaning.{valueOf, unaryMeaning, binaryMeaning}
+use Rattle.slot.specs.Slot.{referenceTo}
+use Rattle.sheet.specs.Tree.{Expr, literal, reference, unary, binary, Entry, setting, expression}
+
+-- an operand's refusal is the node's; else the operator answers
+unfoldable pub onOne : ℕ → ℕ → Outcome → Outcome
+onOne op stage x = pick (eqb (x .status) 0) (unaryMeaning op stage (x .value)) x
+
+-- both operands are worked out; a refusal, left operand first, is the node's
+unfoldable pub onTwo : ℕ → ℕ → Outcome → Outcome → Outcome
+onTwo op stage l r = pick (eqb (l .status) 0) (pick (eqb (r .status) 0) (binaryMeaning op stage (l .value) (r .value)) r) l
+
+-- an expression of a stage over the slots of a buffer
+unfoldable pub meaning : ℕ → List ℕ → Expr → Outcome
+meaning stage l (literal v) = valueOf v
+meaning stage l (reference k) = referenceTo l k
+meaning stage l (unary place op t) = onOne op stage (meaning stage l t)
+meaning stage l (binary place op x y) = onTwo op stage (meaning stage l x) (meaning stage l y)
+
+-- an entry: a setting from its body, another by its expression
+unfoldable pub entryMeaning : List ℕ → Entry → Outcome
+entryMeaning l (setting v) = valueOf v
+entryMeaning l (expression stage t) = meaning stage l t

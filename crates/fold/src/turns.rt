@@ -1,0 +1,149 @@
+// The change of a setting: its checks, and the turn of each entry after it.
+use shape::Instance;
+use sheet::Head;
+ghost use mathlib.Core.Path.{_≡_};
+ghost use Prim.Native.Nat.{_<_};
+ghost use lib.ListN.{length};
+ghost use Rattle.fold.specs.Change.{content};
+ghost use Rattle.fold.specs.Inside.{Here, Next, SettingAt, Turns, Found, Judged, Ready, Applied};
+
+// Whether a record is a setting's, and of which type.
+pub enum Setting {
+    Of(u8),
+    None,
+}
+
+// An entry's turn: the place after its record, and 1 if it is a dependent.
+pub struct Advance {
+    pub next: usize,
+    pub count: usize,
+}
+
+// The place after the record at a place.
+fn next_place(s: &[u8], at: usize) -> usize
+    ensures { λ r. ⌜ Next (now (s .entry)) at r ⌝ }
+{
+    let Head::Record {
+        stage: _,
+        start,
+        len,
+    } = sheet::read_head(s, at)
+    else {
+        return at;
+    };
+    start + len
+}
+
+// The place of entry i's record among n, or the sheet's end.
+pub(crate) fn find(s: &[u8], n: usize, i: u64) -> usize
+    ensures { λ r. ⌜ Found (now (s .entry)) n i r ⌝ }
+{
+    let mut at: usize = 0;
+    let mut k: usize = 0;
+    while (k < n) & ((k as u64) < i) {
+        at = next_place(s, at);
+        k += 1;
+    }
+    at
+}
+
+// The setting at a place: its type is that of its body.
+fn setting_at(s: &[u8], at: usize) -> Setting
+    ensures { λ r. ⌜ SettingAt (now (s .entry)) at r ⌝ }
+{
+    let Head::Record { stage, start, len } = sheet::read_head(s, at) else {
+        return Setting::None;
+    };
+    if stage != 3 {
+        return Setting::None;
+    }
+    let x = sheet::literal_at(sheet::body(s, start, len), 0);
+    let v = x.value;
+    Setting::Of(v.ty)
+}
+
+// The number of the first check of a change that fails, or 0. The record of entry i is at a place, if there is such an entry.
+pub(crate) fn judge(s: &[u8], results: &[u8], n: usize, at: usize, i: u64, ty: u8, bits: u64) -> u8
+    ensures { λ r. ⌜ Judged (now (s .entry)) (length (now (results .entry))) n at i ty bits r ⌝ }
+{
+    if !crate::fill::sized(results.len(), n) {
+        return 30;
+    }
+    if n as u64 <= i {
+        return 31;
+    }
+    let Setting::Of(own) = setting_at(s, at) else {
+        return 31;
+    };
+    if !scalar::proper(ty, bits) {
+        return 26;
+    }
+    if ty != own {
+        return 32;
+    }
+    0
+}
+
+// New content as a value, a NaN as it is kept.
+fn content(ty: u8, bits: u64) -> Instance
+    ensures { λ v. ⌜ v ≡ content ty bits ⌝ }
+{
+    let mut comps = [0u64; 16];
+    comps[0] = scalar::kept(ty, bits);
+    Instance {
+        ty,
+        cols: 1,
+        rows: 1,
+        comps,
+    }
+}
+
+// Entry k's turn: it is worked out over the slots as they stand if it names a marked entry, and is then marked itself.
+fn turn(s: &[u8], results: &mut [u8], marks: &mut [bool; 128], k: usize, at: usize) -> Advance
+    requires { ⌜ Here (now s) k at ⌝ }
+    ensures { λ t. ⌜ Turns (now (s .entry)) k at (now (results .entry)) (now (results .exit)) (now (marks .entry)) (now (marks .exit)) t ⌝ }
+{
+    let Head::Record { stage, start, len } = sheet::read_head(s, at) else {
+        return Advance { next: at, count: 0 };
+    };
+    let b = sheet::body(s, start, len);
+    let next = start + len;
+    if sheet::names_marked(b, marks) {
+        let o = crate::walk::work(b, results, stage);
+        slot::put(results, k, o);
+        marks[k] = true;
+        return Advance { next, count: 1 };
+    }
+    marks[k] = false;
+    Advance { next, count: 0 }
+}
+
+// Setting i, whose record is at a place, gets its content, and each entry after it its turn. Answers the number of dependents.
+pub(crate) fn apply(
+    s: &[u8],
+    results: &mut [u8],
+    n: usize,
+    i: usize,
+    place: usize,
+    ty: u8,
+    bits: u64,
+    marks: &mut [bool; 128],
+) -> usize
+    requires { ⌜ Ready (now s) n i place ⌝ }
+    ensures { λ r. ⌜ Applied (now (s .entry)) n i place ty bits (now (results .entry)) (now (results .exit)) (now (marks .exit)) r ⌝ }
+{
+    let o = shape::answered(content(ty, bits));
+    slot::put(results, i, o);
+    *marks = [false; 128];
+    marks[i] = true;
+    let mut at = next_place(s, place);
+    let mut count: usize = 0;
+    let mut k = i + 1;
+    while k < n {
+        let t = turn(s, results, marks, k, at);
+        at = t.next;
+        count += t.count;
+        k += 1;
+    }
+    count
+}

@@ -1,0 +1,49 @@
+-- `replay::operators::run` meets its contract, and its loop ends.
+use native.Mathlib.Omega.{arith}
+use Rattle.replay.proofs.operators.run.Statement.{statement}
+use Rattle.replay.proofs.operators.run.Tie as tie
+
+abbrev Inv-loop : tie.InvT-loop
+Inv-loop fd t₀ turns₀ t turns = Unit {0}
+
+abbrev μ-loop : tie.MeasureT-loop
+μ-loop fd t₀ turns₀ t turns = turns
+
+start-requires : tie.Need-start-requires Inv-loop μ-loop
+start-requires c κs = tt
+
+loop-holds : tie.Need-loop-holds Inv-loop μ-loop
+loop-holds c = tt
+
+turn-requires : tie.Need-turn-requires Inv-loop μ-loop
+turn-requires c κs = tt
+
+returns : tie.Need-returns Inv-loop μ-loop
+returns c = tt
+
+sub-turns : tie.Need-sub-turns Inv-loop μ-loop
+sub-turns c = omega arith
+
+loop-less : tie.Need-loop-less Inv-loop μ-loop
+loop-less c = omega arith
+
+loop-again : tie.Need-loop-again Inv-loop μ-loop
+loop-again c = tt
+
+returns-2 : tie.Need-returns-2 Inv-loop μ-loop
+returns-2 c = tt
+
+pub run-spec : {M : Type 1} → statement M
+run-spec =
+    tie.close
+    (tie.spec
+    Inv-loop
+    μ-loop
+    start-requires
+    loop-holds
+    turn-requires
+    returns
+    sub-turns
+    loop-less
+    loop-again
+    returns-2)

@@ -1,0 +1,11 @@
+-- The laws of the definitions, and what follows from them for whoever builds on this crate.
+pub mod Reading
+pub mod Components
+pub mod Nodes
+pub mod Inverse
+pub mod Records
+pub mod Sheets
+pub mod Passes
+pub mod Accepted
+pub mod Single
+pub mod Example

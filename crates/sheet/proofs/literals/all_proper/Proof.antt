@@ -1,0 +1,60 @@
+-- The invariant: what is left to judge from here on decides for all components.
+use borrow.Author.Needs.{needs}
+use native.Mathlib.Omega.{arith}
+use mathlib.Core.Path.{_≡_, sym, _∙_}
+use Prim.Native.Nat.{_+_, _*_, _≤_}
+use lib.ListN.{length}
+use borrow.Author.Tests.{not-true, not-false}
+use Rattle.sheet.specs.Node.{allProper}
+use Rattle.sheet.proofs.Components.{first-bad, first-good, none-proper}
+use Rattle.sheet.proofs.literals.all_proper.Statement.{statement}
+use Rattle.sheet.proofs.literals.all_proper.Tie as tie
+
+abbrev Inv-loop : tie.InvT-loop
+Inv-loop b at n ty p₀ left₀ p left = (allProper ty n b at ≡ allProper ty left b p) × (p + 8 * left ≤ length b)
+
+abbrev μ-loop : tie.MeasureT-loop
+μ-loop b at n ty p₀ left₀ p left = left
+
+loop-holds : tie.Need-loop-holds Inv-loop μ-loop
+loop-holds c = search needs
+
+word-at-requires : tie.Need-word-at-requires Inv-loop μ-loop
+word-at-requires c κs = omega arith
+
+proper-requires : tie.Need-proper-requires Inv-loop μ-loop
+proper-requires c κs = search needs
+
+returns : tie.Need-returns Inv-loop μ-loop
+returns c = sym (c .before .before .before .before .loop .inv .0 ∙ first-bad _ _ _ _ _ _ (c .before .before .before .loop-test .taken) (c .before .before .word-at .ensures) (c .before .proper .ensures) (not-true _ (c .if1 .taken)))
+
+add-p : tie.Need-add-p Inv-loop μ-loop
+add-p c = omega arith
+
+sub-left : tie.Need-sub-left Inv-loop μ-loop
+sub-left c = omega arith
+
+loop-less : tie.Need-loop-less Inv-loop μ-loop
+loop-less c = omega arith
+
+loop-again : tie.Need-loop-again Inv-loop μ-loop
+loop-again c = (c .before .before .before .before .loop .inv .0 ∙ first-good _ _ _ _ _ _ (c .before .before .before .loop-test .taken) (c .before .before .word-at .ensures) (c .before .proper .ensures) (not-false _ (c .if1 .left)), omega arith)
+
+returns-2 : tie.Need-returns-2 Inv-loop μ-loop
+returns-2 c = sym (c .before .loop .inv .0 ∙ none-proper _ _ _ _ (c .loop-test .left))
+
+pub all-proper-spec : {M : Type 1} → statement M
+all-proper-spec =
+    tie.close
+    (tie.spec
+    Inv-loop
+    μ-loop
+    loop-holds
+    word-at-requires
+    proper-requires
+    returns
+    add-p
+    sub-left
+    loop-less
+    loop-again
+    returns-2)

@@ -1,0 +1,111 @@
+-- One node of a body and the checks of it, in their order. Places are counted from the body's first byte.
+use Prim.Native.Nat.{ℕ, zero, suc, _+_, _*_, _-_}
+use mathlib.Core.List.{List, [], _∷_, _++_}
+use mathlib.Core.Bool.{Bool, true, false, _&&_, _||_, not}
+use lib.ListN.{length, getD, replicate}
+use lib.Dec.{ltb, leb, eqb}
+use Rattle.scalar.specs.Pattern.{pick, properOf, keptOf}
+use Rattle.shape.specs.declared.Instance.{Instance}
+use Rattle.shape.specs.Operand.{shapeOk}
+use Rattle.sheet.specs.declared.Literal.{Literal}
+use Rattle.sheet.specs.Read.{Read, found, refused, need, andThen, made, there, cut}
+use Rattle.sheet.specs.Tree.{Expr, literal, reference, unary, binary, names}
+
+-- k bytes from a place on, low byte first
+abbrev pub leWord : ℕ → List ℕ → ℕ → ℕ
+leWord zero b at = 0
+leWord (suc k) b at = getD b at 0 + 256 * leWord k b (at + 1)
+
+-- n components from a place on, 8 bytes each, are patterns of the type
+unfoldable pub allProper : ℕ → ℕ → List ℕ → ℕ → Bool
+allProper ty zero b at = true
+allProper ty (suc n) b at = pick (properOf ty (leWord 8 b at)) (allProper ty n b (at + 8)) false
+
+-- n components from a place on; a NaN read is kept as its type's one NaN
+unfoldable pub components : ℕ → ℕ → List ℕ → ℕ → List ℕ
+components ty zero b at = []
+components ty (suc n) b at = keptOf ty (leWord 8 b at) ∷ components ty n b (at + 8)
+
+-- the value of a literal: its n components, unused ones 0
+abbrev pub valueAt : ℕ → ℕ → ℕ → ℕ → List ℕ → ℕ → Instance
+valueAt ty cols rows n b at = record { ty = ty; cols = cols; rows = rows; comps = components ty n b at ++ replicate (16 - n) 0 }
+
+-- a literal's type and shape; a setting's is a scalar of type 0, 3, 4, 5 or 6
+abbrev pub literalOk : Bool → ℕ → ℕ → ℕ → Bool
+literalOk setting ty cols rows = shapeOk ty cols rows && (not setting || ((eqb ty 0 || leb 3 ty) && eqb cols 1 && eqb rows 1))
+
+-- 01, type, columns, rows, components: type and shape are judged before the components are looked for
+unfoldable pub readLiteral : Bool → List ℕ → ℕ → Read Instance
+readLiteral setting b at =
+    need (there b at 4) (cut b)
+    (need (literalOk setting (getD b (at + 1) 0) (getD b (at + 2) 0) (getD b (at + 3) 0)) (refused 26 at)
+    (need (there b (at + 4) (8 * (getD b (at + 2) 0 * getD b (at + 3) 0))) (cut b)
+    (need (allProper (getD b (at + 1) 0) (getD b (at + 2) 0 * getD b (at + 3) 0) b (at + 4)) (refused 26 at)
+    (found (valueAt (getD b (at + 1) 0) (getD b (at + 2) 0) (getD b (at + 3) 0) (getD b (at + 2) 0 * getD b (at + 3) 0) b (at + 4))
+    (at + 4 + 8 * (getD b (at + 2) 0 * getD b (at + 3) 0))))))
+
+-- 02, number of an earlier entry, whose stage is not above this one's
+unfoldable pub readReference : List ℕ → ℕ → List ℕ → ℕ → Read Expr
+readReference stages own b at =
+    need (there b at 2) (cut b)
+    (need (ltb (getD b (at + 1) 0) (length stages)) (refused 27 at)
+    (need (leb (getD stages (getD b (at + 1) 0) 0) own) (refused 23 at)
+    (found (reference (getD b (at + 1) 0)) (at + 2))))
+
+-- operators 1 to 3 stand before one operand, 1 to 18 before two
+abbrev pub known : Bool → ℕ → Bool
+known two op = leb 1 op && (leb op 3 || (two && leb op 18))
+
+-- the operands of an operator node, left before right; below reads a node
+unfoldable pub operands : Bool → ℕ → ℕ → (ℕ → Read Expr) → ℕ → Read Expr
+operands false place op below at = made (unary place op) (below at)
+operands true place op below at = andThen (below at) (λ l m. made (binary place op l) (below m))
+
+-- 03 or 04, operator, one or two nodes
+unfoldable pub readOperator : Bool → (ℕ → Read Expr) → List ℕ → ℕ → Read Expr
+readOperator two below b at =
+    need (there b at 2) (cut b)
+    (need (known two (getD b (at + 1) 0)) (refused 25 at)
+    (operands two at (getD b (at + 1) 0) below (at + 2)))
+
+-- what a node's tag byte says that it is
+pub data Tag : Type 0 where
+  isLiteral : Tag
+  isReference : Tag
+  isOperator : Bool → Tag
+  unknown : Tag
+
+unfoldable pub tagOf : ℕ → Tag
+tagOf t = pick (eqb t 1) isLiteral (pick (eqb t 2) isReference (pick (eqb t 3) (isOperator false) (pick (eqb t 4) (isOperator true) unknown)))
+
+unfoldable pub onTag : Tag → (ℕ → Read Expr) → List ℕ → ℕ → List ℕ → ℕ → Read Expr
+onTag isLiteral below stages own b at = made literal (readLiteral false b at)
+onTag isReference below stages own b at = readReference stages own b at
+onTag (isOperator two) below stages own b at = readOperator two below b at
+onTag unknown below stages own b at = refused 25 at
+
+-- one node, where so many levels are left: depth, tag byte there, tag known, and what its tag asks
+unfoldable pub readNode : ℕ → List ℕ → ℕ → List ℕ → ℕ → Read Expr
+readNode zero stages own b at = refused 28 at
+readNode (suc levels) stages own b at =
+    need (there b at 1) (cut b)
+    (onTag (tagOf (getD b at 0)) (readNode levels stages own b) stages own b at)
+
+-- the literal at a place and the place after it; zeros where none can be read
+unfoldable pub literalIn : Read Instance → Literal
+literalIn (found v n) = record { value = v; next = n }
+literalIn (refused k p) = record { value = record { ty = 0; cols = 0; rows = 0; comps = replicate 16 0 }; next = 0 }
+
+-- the entries that were read in an expression; none where none was read
+unfoldable pub namesRead : Read Expr → List ℕ
+namesRead (found t n) = names t
+namesRead (refused k p) = []
+
+-- the entries that the expression in a body names, whichever of the 128 they are
+unfoldable pub namesIn : List ℕ → List ℕ
+namesIn b = namesRead (readNode 32 (replicate 128 0) 2 b 0)
+
+-- whether one of some entries is marked
+unfoldable pub anyMarked : List Bool → List ℕ → Bool
+anyMarked marks [] = false
+anyMarked marks (k ∷ ks) = getD marks k false || anyMarked marks ks

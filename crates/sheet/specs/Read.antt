@@ -1,0 +1,45 @@
+-- What reading bytes from a place on answers: a thing and the place after it, or a refusal's number and its byte place.
+use Prim.Native.Nat.{ℕ, _+_}
+use mathlib.Core.Bool.{Bool, true, false}
+use mathlib.Core.List.{List}
+use lib.ListN.{length}
+use lib.Dec.{leb}
+use Rattle.sheet.specs.declared.Seen.{Seen}
+use Rattle.sheet.specs.declared.Seen.the-variants as seen
+
+pub data Read (A : Type 0) : Type 0 where
+  found : A → ℕ → Read A
+  refused : ℕ → ℕ → Read A
+
+-- a check: the refusal where the test fails, else what follows
+unfoldable pub need : {A : Type 0} → Bool → A → A → A
+need true refusal then = then
+need false refusal then = refusal
+
+-- what follows a thing that was read goes on from the place after it
+unfoldable pub andThen : {A B : Type 0} → Read A → (A → ℕ → Read B) → Read B
+andThen (found a n) next = next a n
+andThen (refused k p) next = refused k p
+
+-- the thing that was read, made into another
+unfoldable pub made : {A B : Type 0} → (A → B) → Read A → Read B
+made f (found a n) = found (f a) n
+made f (refused k p) = refused k p
+
+-- places counted from the first byte of a part that starts here
+unfoldable pub moved : {A : Type 0} → ℕ → Read A → Read A
+moved start (found a n) = found a (start + n)
+moved start (refused k p) = refused k (start + p)
+
+-- so many bytes are there from a place on
+abbrev pub there : List ℕ → ℕ → ℕ → Bool
+there b at n = leb (at + n) (length b)
+
+-- CutShort: its place is the first missing byte, the one past the end
+abbrev pub cut : {A : Type 0} → List ℕ → Read A
+cut b = refused 22 (length b)
+
+-- an answer without the thing that was read
+abbrev pub seenOf : {A : Type 0} → Read A → Seen
+seenOf (found a n) = seen.Good n
+seenOf (refused k p) = seen.Refused k p

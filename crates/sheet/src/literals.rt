@@ -1,0 +1,113 @@
+// A literal node: type, columns, rows and components.
+use crate::Literal;
+use crate::Seen;
+use crate::bytes::left;
+use crate::bytes::word_at;
+use shape::Instance;
+ghost use mathlib.Core.Path.{_≡_};
+ghost use mathlib.Core.Bool.{false};
+ghost use mathlib.Core.List.{_++_};
+ghost use Prim.Native.Nat.{_+_, _*_, _-_, _<_, _≤_};
+ghost use lib.ListN.{length, replicate};
+ghost use Rattle.sheet.specs.Read.{seenOf};
+ghost use Rattle.sheet.specs.Node.{allProper, components, literalOk, readLiteral, literalIn};
+
+// How many components a shape has.
+pub(crate) fn area(cols: u8, rows: u8) -> usize
+    ensures { λ r. ⌜ (r ≡ cols * rows) × (r < 65536) ⌝ }
+{
+    (cols as usize) * (rows as usize)
+}
+
+// Whether a literal may have this type and shape; a setting's are fewer.
+fn literal_ok(setting: bool, ty: u8, cols: u8, rows: u8) -> bool
+    ensures { λ r. ⌜ r ≡ literalOk setting ty cols rows ⌝ }
+{
+    shape::shape_ok(ty, cols, rows)
+        & (!setting | ((ty == 0) | (3 <= ty)) & (cols == 1) & (rows == 1))
+}
+
+// Whether the n components from a place on are all patterns of the type.
+fn all_proper(b: &[u8], at: usize, n: usize, ty: u8) -> bool
+    requires { ⌜ at + 8 * n ≤ length (now b) ⌝ }
+    ensures { λ r. ⌜ r ≡ allProper ty n (now (b .entry)) at ⌝ }
+{
+    let mut p = at;
+    let mut left = n;
+    while 0 < left {
+        let w = word_at(b, p);
+        if !scalar::proper(ty, w) {
+            return false;
+        }
+        p += 8;
+        left -= 1;
+    }
+    true
+}
+
+// Judges the literal node at a place, as a setting's or as any.
+pub(crate) fn read_literal(b: &[u8], at: usize, setting: bool) -> Seen
+    ensures { λ r. ⌜ r ≡ seenOf (readLiteral setting (now (b .entry)) at) ⌝ }
+{
+    if left(b, at) < 4 {
+        return Seen::Refused(22, b.len());
+    }
+    let ty = b[at + 1];
+    let cols = b[at + 2];
+    let rows = b[at + 3];
+    if !literal_ok(setting, ty, cols, rows) {
+        return Seen::Refused(26, at);
+    }
+    let n = area(cols, rows);
+    if left(b, at + 4) < 8 * n {
+        return Seen::Refused(22, b.len());
+    }
+    if !all_proper(b, at + 4, n, ty) {
+        return Seen::Refused(26, at);
+    }
+    Seen::Good(at + 4 + 8 * n)
+}
+
+// The n components from a place on, a NaN as it is kept, and 0 for those not in use.
+fn load(b: &[u8], at: usize, n: usize, ty: u8) -> [u64; 16]
+    requires { ⌜ (n ≤ 16) × (at + 8 * n ≤ length (now b)) ⌝ }
+    ensures { λ r. ⌜ r ≡ components ty n (now (b .entry)) at ++ replicate (16 - n) 0 ⌝ }
+{
+    let mut out = [0u64; 16];
+    let mut i: usize = 0;
+    while i < n {
+        out[i] = scalar::kept(ty, word_at(b, at + 8 * i));
+        i += 1;
+    }
+    out
+}
+
+// The value of the literal at a place and the place after it, or zeros where none can be read.
+pub fn literal_at(b: &[u8], at: usize) -> Literal
+    ensures { λ r. ⌜ r ≡ literalIn (readLiteral false (now (b .entry)) at) ⌝ }
+{
+    let Seen::Good(next) = read_literal(b, at, false) else {
+        return Literal {
+            value: Instance {
+                ty: 0,
+                cols: 0,
+                rows: 0,
+                comps: [0u64; 16],
+            },
+            next: 0,
+        };
+    };
+    let ty = b[at + 1];
+    let cols = b[at + 2];
+    let rows = b[at + 3];
+    let comps = load(b, at + 4, area(cols, rows), ty);
+    Literal {
+        value: Instance {
+            ty,
+            cols,
+            rows,
+            comps,
+        },
+        next,
+    }
+}

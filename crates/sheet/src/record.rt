@@ -1,0 +1,112 @@
+// A record: its head, its body as a part of the sheet, and what is judged of both.
+use crate::Head;
+use crate::Passed;
+use crate::Seen;
+use crate::bytes::left;
+use crate::literals::read_literal;
+use crate::node::read_node;
+ghost use mathlib.Core.Path.{_≡_};
+ghost use lib.Dec.{eqb};
+ghost use Rattle.scalar.specs.Pattern.{pick};
+ghost use Rattle.sheet.specs.Read.{seenOf};
+ghost use Rattle.sheet.specs.Record.{readHead, partOf, readSetting, readExpression, readBody, readRecord, passedOf};
+
+// Judges the five bytes before a body, and that the body is there: its stage byte, where it starts and its length.
+pub fn read_head(s: &[u8], at: usize) -> Head
+    ensures { λ r. ⌜ r ≡ readHead (now (s .entry)) at ⌝ }
+{
+    if left(s, at) < 5 {
+        return Head::Refused(22, s.len());
+    }
+    if s[at] != 0xD5 {
+        return Head::Refused(21, at);
+    }
+    if s[at + 1] != 0x17 {
+        return Head::Refused(21, at);
+    }
+    let stage = s[at + 2];
+    if 3 < stage {
+        return Head::Refused(23, at + 2);
+    }
+    let len = (s[at + 3] as usize) + 256 * (s[at + 4] as usize);
+    if left(s, at + 5) < len {
+        return Head::Refused(22, s.len());
+    }
+    Head::Record {
+        stage: stage,
+        start: at + 5,
+        len: len,
+    }
+}
+
+// A record's body as a part of the sheet; an empty part where start and length do not lie in the sheet.
+pub fn body(s: &[u8], start: usize, len: usize) -> &[u8]
+    ensures { λ r. ⌜ now r ≡ partOf (now (s .entry)) start len ⌝ }
+{
+    if s.len() < len {
+        return &s[..0];
+    }
+    if s.len() - len < start {
+        return &s[..0];
+    }
+    &s[start..start + len]
+}
+
+// Judges a setting's body: one literal node of a scalar.
+fn read_setting(b: &[u8]) -> Seen
+    ensures { λ r. ⌜ r ≡ seenOf (readSetting (now (b .entry))) ⌝ }
+{
+    if b.len() == 0 {
+        return Seen::Refused(22, 0);
+    }
+    if b[0] != 1 {
+        return Seen::Refused(25, 0);
+    }
+    read_literal(b, 0, true)
+}
+
+// Judges the one expression of a body by its record's stage byte.
+fn read_expression(b: &[u8], stages: &[u8], stage: u8) -> Seen
+    ensures { λ r. ⌜ r ≡ seenOf (readExpression (now (stages .entry)) stage (now (b .entry))) ⌝ }
+{
+    if stage == 3 {
+        return read_setting(b);
+    }
+    read_node(b, stages, stage, 0, 32)
+}
+
+// Judges a record's body: one expression, and nothing after it.
+fn read_body(b: &[u8], stages: &[u8], stage: u8) -> Seen
+    ensures { λ r. ⌜ r ≡ seenOf (readBody (now (stages .entry)) stage (now (b .entry))) ⌝ }
+{
+    let seen = read_expression(b, stages, stage);
+    let Seen::Good(n) = seen else {
+        return seen;
+    };
+    if n < b.len() {
+        return Seen::Refused(29, n);
+    }
+    seen
+}
+
+// The stage that an entry counts as, from its stage byte.
+fn stage_of(byte: u8) -> u8
+    ensures { λ r. ⌜ r ≡ pick (eqb byte 3) 1 byte ⌝ }
+{
+    if byte == 3 { 1 } else { byte }
+}
+
+// Judges the record at a place, where the entries before it count as these stages.
+pub(crate) fn read_record(s: &[u8], stages: &[u8], at: usize) -> Passed
+    ensures { λ r. ⌜ r ≡ passedOf (readRecord (now (stages .entry)) (now (s .entry)) at) ⌝ }
+{
+    match read_head(s, at) {
+        Head::Refused(k, p) => Passed::Refused(k, p),
+        Head::Record { stage, start, len } => {
+            match read_body(body(s, start, len), stages, stage) {
+                Seen::Refused(k, p) => Passed::Refused(k, start + p),
+                Seen::Good(n) => Passed::Entry(stage_of(stage), start + n),
+            }
+        }
+    }
+}

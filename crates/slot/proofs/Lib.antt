@@ -1,0 +1,5 @@
+pub mod Parts
+pub mod Lows
+pub mod Slots
+pub mod Tests
+pub mod Single

@@ -1,0 +1,71 @@
+// Which slots are well formed.
+use shape::Instance;
+use shape::Outcome;
+ghost use mathlib.Core.Path.{_≡_};
+ghost use Prim.Native.Nat.{_*_, _<_};
+ghost use Rattle.slot.specs.Slot.{componentFormed, componentsFormed, valueFormed, blank, detailFormed, formed};
+
+// How many components a shape has.
+fn area(cols: u8, rows: u8) -> usize
+    ensures { λ r. ⌜ r ≡ cols * rows ⌝ }
+{
+    (cols as usize) * (rows as usize)
+}
+
+// Whether component i may stand there, where the first n are in use.
+fn component_formed(ty: u8, n: usize, xs: [u64; 16], i: usize) -> bool
+    requires { ⌜ i < 16 ⌝ }
+    ensures { λ r. ⌜ r ≡ componentFormed ty n xs i ⌝ }
+{
+    let x = xs[i];
+    if i < n {
+        return scalar::proper(ty, x) & (scalar::kept(ty, x) == x);
+    }
+    x == 0
+}
+
+// Whether each component may stand there, where the first n are in use.
+fn components_formed(ty: u8, n: usize, xs: [u64; 16]) -> bool
+    ensures { λ r. ⌜ r ≡ componentsFormed ty n xs ⌝ }
+{
+    let mut good = true;
+    let mut i = 0;
+    while i < 16 {
+        good = good & component_formed(ty, n, xs, i);
+        i += 1;
+    }
+    good
+}
+
+// Whether a value may stand in a slot of status 0.
+fn value_formed(v: Instance) -> bool
+    ensures { λ r. ⌜ r ≡ valueFormed v ⌝ }
+{
+    let xs = v.comps;
+    shape::shape_ok(v.ty, v.cols, v.rows) & components_formed(v.ty, area(v.cols, v.rows), xs)
+}
+
+// Whether a value has type, columns, rows and components 0.
+fn blank(v: Instance) -> bool
+    ensures { λ r. ⌜ r ≡ blank v ⌝ }
+{
+    let xs = v.comps;
+    (v.ty == 0) & (v.cols == 0) & (v.rows == 0) & components_formed(0, 0, xs)
+}
+
+// Whether a refusal may have this detail.
+fn detail_formed(number: u8, detail: u32) -> bool
+    ensures { λ r. ⌜ r ≡ detailFormed number detail ⌝ }
+{
+    (detail == 0) | (number == 9) | (number == 10) | (number == 11) & (detail < 128)
+}
+
+// Whether a slot that says this is well formed.
+pub(crate) fn formed(o: Outcome) -> bool
+    ensures { λ r. ⌜ r ≡ formed o ⌝ }
+{
+    let v = o.value;
+    let s = o.status;
+    (s == 0) & (o.detail == 0) & value_formed(v)
+        | (1 <= s) & (s <= 11) & detail_formed(s, o.detail) & blank(v)
+}

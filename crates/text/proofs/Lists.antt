@@ -1,0 +1,69 @@
+-- Texts of lists, one element more.
+use mathlib.Core.Path.{_≡_, refl, sym, ap, _∙_}
+use mathlib.Core.Bool.{Bool, true, false, not, _&&_}
+use mathlib.Core.Logic.{⊎-elim}
+use mathlib.Core.List.{List, [], _∷_, _++_, append-assoc, append-nil}
+use Prim.Native.Nat.{ℕ, _+_, _*_, _≤_, _<_, min}
+use native.Mathlib.Omega.{arith}
+use native.Mathlib.Numerals.{add-one}
+use native.Mathlib.Nat.{min-eq-left, min-eq-right}
+use lib.Dec.{eqb}
+use lib.ListN.{length, take, getD}
+use lib.Seq.{take-suc, take-all}
+use Rattle.shape.specs.declared.Outcome.{Outcome}
+use Rattle.slot.proofs.Parts.{le-or-lt}
+use Rattle.slot.specs.Slot.{slot, saidBy, wellFormed}
+use Rattle.text.specs.Text.{dec, hex, words, fields, shown, line, lines, mover, movers}
+
+-- a list's text, element by element
+module _ (f : ℕ → List ℕ) (g : List ℕ → List ℕ) (none : g [] ≡ []) (cons : (x : ℕ) (xs : List ℕ) → g (x ∷ xs) ≡ f x ++ g xs) where
+  joined : (xs ys : List ℕ) → g (xs ++ ys) ≡ g xs ++ g ys
+  joined [] ys = rw none
+  joined (x ∷ xs) ys = cons x (xs ++ ys) ∙ rw (joined xs ys, cons x xs, append-assoc)
+
+  one-more : (xs : List ℕ) (i : ℕ) → i < length xs → g (take (i + 1) xs) ≡ g (take i xs) ++ f (getD xs i 0)
+  one-more xs i h = rw (add-one i, take-suc xs i 0 h, joined (take i xs) (getD xs i 0 ∷ []), cons (getD xs i 0) [], none, append-nil)
+
+pub words-more : (xs : List ℕ) (i : ℕ) → i < length xs → words (take (i + 1) xs) ≡ words (take i xs) ++ (32 ∷ hex (getD xs i 0))
+unfolding words
+words-more xs i h = one-more (λ x. 32 ∷ hex x) words refl (λ x ys. refl) xs i h
+
+pub fields-more : (xs : List ℕ) (i : ℕ) → i < length xs → fields (take (i + 1) xs) ≡ fields (take i xs) ++ (32 ∷ dec (getD xs i 0))
+unfolding fields
+fields-more xs i h = one-more (λ x. 32 ∷ dec x) fields refl (λ x ys. refl) xs i h
+
+pub lines-more : (b : List ℕ) (n : ℕ) → lines b (n + 1) ≡ lines b n ++ line n (saidBy (slot b n)) (wellFormed (slot b n))
+unfolding lines
+lines-more b n = rw add-one
+
+-- no more elements than there are
+take-min : (xs : List ℕ) (m n : ℕ) → length xs ≡ n → take (min m n) xs ≡ take m xs
+take-min xs m n e =
+    ⊎-elim (λ (h : m ≤ n). ap (λ (j : ℕ). take j xs) (min-eq-left h))
+    (λ (h : n < m).
+    let l : n ≤ m = omega arith in
+    ap (λ (j : ℕ). take j xs) (min-eq-right l) ∙ take-all n xs (omega arith) ∙ sym (take-all m xs (omega arith)))
+    (le-or-lt m n)
+
+module _ (o : Outcome) (formed : Bool) where
+  pub shown-some : (eqb (o .status) 0 && formed) ≡ true → (n : ℕ) → n ≡ min (o .value .cols * o .value .rows) 16 → length (o .value .comps) ≡ 16
+      → words (take n (o .value .comps)) ≡ shown o formed
+  unfolding shown
+  shown-some t n e l = rw (t, e) (ap words (take-min (o .value .comps) (o .value .cols * o .value .rows) 16 l))
+
+  pub shown-none : (eqb (o .status) 0 && formed) ≡ false → [] ≡ shown o formed
+  unfolding shown
+  shown-none f = rw f
+
+module _ (marks : List Bool) (own k : ℕ) where
+  pub mover-some : (getD marks k false && not (eqb k own)) ≡ true → fields (mover marks own k) ≡ 32 ∷ dec k
+  unfolding mover fields
+  mover-some t = rw t (append-nil (32 ∷ dec k))
+
+  pub mover-none : (getD marks k false && not (eqb k own)) ≡ false → fields (mover marks own k) ≡ []
+  unfolding mover fields
+  mover-none f = rw f
+
+  pub movers-more : fields (movers marks own (k + 1)) ≡ fields (movers marks own k) ++ fields (mover marks own k)
+  unfolding movers fields
+  movers-more = rw (add-one k) (joined (λ x. 32 ∷ dec x) fields refl (λ x ys. refl) (movers marks own k) (mover marks own k))

@@ -1,0 +1,78 @@
+-- What a listing says (01, The sheet: the two listings of the example), as bytes.
+use mathlib.Core.Path.{_≡_}
+use mathlib.Core.Bool.{Bool, false, cond, not, _&&_}
+use mathlib.Core.List.{List, [], _∷_, _++_}
+use Prim.Native.Nat.{ℕ, zero, suc, _+_, _*_, _/_, _%_, min}
+use lib.Dec.{ltb, eqb}
+use lib.ListN.{length, take, getD}
+use Rattle.io.specs.Digits.{digits}
+use Rattle.shape.specs.declared.Outcome.{Outcome}
+use Rattle.slot.specs.Bytes.{patch}
+use Rattle.slot.specs.Slot.{slot, saidBy, wellFormed}
+
+-- the decimal digits of n, of which there are at most f + 1
+unfoldable pub decimals : ℕ → ℕ → List ℕ
+decimals zero n = (48 + n) ∷ []
+decimals (suc f) n = cond (ltb n 10) ((48 + n) ∷ []) (decimals f (n / 10) ++ ((48 + n % 10) ∷ []))
+
+-- the decimal digits of a number of at most 64 bits
+unfoldable pub dec : ℕ → List ℕ
+dec n = decimals 19 n
+
+-- each number after a space, in decimal
+unfoldable pub fields : List ℕ → List ℕ
+fields [] = []
+fields (x ∷ xs) = (32 ∷ dec x) ++ fields xs
+
+-- the 16 hexadecimal digits of a number of 64 bits
+unfoldable pub hex : ℕ → List ℕ
+hex x = digits 16 16 x
+
+-- each component after a space
+unfoldable pub words : List ℕ → List ℕ
+words [] = []
+words (x ∷ xs) = (32 ∷ hex x) ++ words xs
+
+-- the components in use, where a slot is well formed with status 0
+unfoldable pub shown : Outcome → Bool → List ℕ
+shown o formed = cond (eqb (o .status) 0 && formed) (words (take (o .value .cols * o .value .rows) (o .value .comps))) []
+
+-- an entry's line: number, status, type, columns, rows, detail, components in use last, a line feed
+unfoldable pub line : ℕ → Outcome → Bool → List ℕ
+line k o formed =
+    dec k ++ fields (o .status ∷ o .value .ty ∷ o .value .cols ∷ o .value .rows ∷ o .detail ∷ []) ++ shown o formed ++ (10 ∷ [])
+
+-- the lines of the first n entries
+unfoldable pub lines : List ℕ → ℕ → List ℕ
+lines b zero = []
+lines b (suc n) = lines b n ++ line n (saidBy (slot b n)) (wellFormed (slot b n))
+
+-- 136 bytes an entry, at most 128 entries
+unfoldable pub entries : List ℕ → ℕ
+entries b = min (length b / 136) 128
+
+-- "sheet", the number of entries and their lines
+unfoldable pub listing : List ℕ → List ℕ
+listing b = (115 ∷ 104 ∷ 101 ∷ 101 ∷ 116 ∷ 32 ∷ []) ++ dec (entries b) ++ (10 ∷ []) ++ lines b (entries b)
+
+-- "refused" and the number
+unfoldable pub refusal : ℕ → List ℕ
+refusal n = (114 ∷ 101 ∷ 102 ∷ 117 ∷ 115 ∷ 101 ∷ 100 ∷ 32 ∷ []) ++ dec n ++ (10 ∷ [])
+
+-- entry k, where it is marked and not the setting's own
+unfoldable pub mover : List Bool → ℕ → ℕ → List ℕ
+mover marks own k = cond (getD marks k false && not (eqb k own)) (k ∷ []) []
+
+-- the entries of the first n that moved, in rising order
+unfoldable pub movers : List Bool → ℕ → ℕ → List ℕ
+movers marks own zero = []
+movers marks own (suc n) = movers marks own n ++ mover marks own n
+
+-- "moved", how many entries depend on the setting, and which they are
+unfoldable pub moved : ℕ → List Bool → ℕ → List ℕ
+moved n marks own = (109 ∷ 111 ∷ 118 ∷ 101 ∷ 100 ∷ 32 ∷ []) ++ dec n ++ fields (movers marks own 128) ++ (10 ∷ [])
+
+-- m is l with the text t at place a, and b is the place after t
+pub record Put (l m : List ℕ) (a b : ℕ) (t : List ℕ) : Type 0 where
+  pub text : m ≡ patch l a t
+  pub next : b ≡ a + length t

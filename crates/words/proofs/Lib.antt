@@ -1,0 +1,3 @@
+pub mod Spellings
+pub mod Splits
+pub mod Single
