@@ -23,11 +23,11 @@ module _ (l : List ℕ) (o : Outcome) (r : ℕ) where
     refused n = (rw (eq-eqb (length l) 136 h) e, rw (eq-eqb (length l) 136 h, ne-eqb (o .status) 0 n))
 
     -- all of the slot is replaced
-    replaced : length (o .value .comps) ≡ 16 → put l 0 (bytesOf o) ≡ bytesOf o
-    replaced c =
+    replaced : put l 0 (bytesOf o) ≡ bytesOf o
+    replaced =
         let k : 0 < length l / 136 = omega arith in
-        put-in l 0 (bytesOf o) k ∙ patch-all l (bytesOf o) (bytes-long o c ∙ sym h)
+        put-in l 0 (bytesOf o) k ∙ patch-all l (bytesOf o) (bytes-long o ∙ sym h)
 
-    pub written : (m : List ℕ) → o .status ≡ 0 → length (o .value .comps) ≡ 16 → m ≡ put l 0 (bytesOf o) → (r ≡ directAnswer l o) × (m ≡ directBytes l o)
+    pub written : (m : List ℕ) → o .status ≡ 0 → m ≡ put l 0 (bytesOf o) → (r ≡ directAnswer l o) × (m ≡ directBytes l o)
     unfolding directAnswer directBytes
-    written m z c p = (rw (eq-eqb (length l) 136 h) e, rw (eq-eqb (length l) 136 h, eq-eqb (o .status) 0 z) (p ∙ replaced c))
+    written m z p = (rw (eq-eqb (length l) 136 h) e, rw (eq-eqb (length l) 136 h, eq-eqb (o .status) 0 z) (p ∙ replaced))

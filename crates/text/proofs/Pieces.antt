@@ -1,14 +1,14 @@
 -- Texts put one after another.
 use mathlib.Core.Path.{_≡_, refl, sym, ap, _∙_}
-use mathlib.Core.List.{List, [], _∷_, _++_}
+use mathlib.Core.List.{List, [], _∷_, _++_, append-assoc}
 use Prim.Native.Nat.{ℕ, _+_, _≤_, _<_}
 use native.Mathlib.Omega.{arith}
 use native.Mathlib.Numerals.{add-one}
 use lib.ListN.{length, take, getD, set, length-append}
-use lib.Seq.{take-suc, length-take-le}
+use lib.Seq.{take-suc, length-take-le, set-split}
 use Rattle.io.specs.Counts.{Counts}
 use Rattle.slot.specs.Bytes.{patch}
-use Rattle.slot.proofs.Parts.{patch-none, set-patch, patch-next, length-patch}
+use Rattle.slot.proofs.Parts.{patch-none, patch-next, length-patch}
 use Rattle.text.specs.Text.{Put}
 
 -- one text after another
@@ -23,6 +23,10 @@ then {l} {m} {n} {x} {y} {a} {b} {c} p q h =
 -- no text, and one byte
 pub nothing : (l : List ℕ) (a : ℕ) → Put l l a a []
 nothing l a = record { text = patch-none l a; next = omega arith }
+
+set-patch : (l : List ℕ) (i v : ℕ) → i < length l → set l i v ≡ patch l i (v ∷ [])
+unfolding patch
+set-patch l i v h = set-split l i v h ∙ rw (add-one, append-assoc)
 
 pub one : (l : List ℕ) (a v : ℕ) → a < length l → Put l (set l a v) a (a + 1) (v ∷ [])
 one l a v h = record { text = set-patch l a v h; next = refl }

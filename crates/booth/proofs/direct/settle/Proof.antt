@@ -1,6 +1,4 @@
 -- `booth::direct::settle` meets its contract.
-use mathlib.Core.Path.{_≡_}
-use lib.ListN.{length}
 use Rattle.booth.proofs.Settled.{wrong-size, refused, written}
 use borrow.Author.Needs.{needs}
 use Rattle.booth.proofs.direct.settle.Statement.{statement}
@@ -30,8 +28,7 @@ same-length c = search needs
 returns-3 : tie.Need-returns-3
 returns-3 c =
     let s = c .before .before .before .before .before .before .before .before .before .before .args in
-    let n : length (s .o .value .comps) ≡ 16 = search needs in
-    written (s .slot .now) (s .o) (c .before .before .before .before .before .before .pack2 .result) (c .before .before .before .before .before .before .before .before .if1 .left) (c .before .before .before .before .before .before .pack2 .ensures) (c .before .before .put .last .0) (c .before .before .before .before .if2 .left) n (c .before .before .put .ensures)
+    written (s .slot .now) (s .o) (c .before .before .before .before .before .before .pack2 .result) (c .before .before .before .before .before .before .before .before .if1 .left) (c .before .before .before .before .before .before .pack2 .ensures) (c .before .before .put .last .0) (c .before .before .before .before .if2 .left) (c .before .before .put .ensures)
 
 pub settle-spec : {M : Type 1} → statement M
 settle-spec =

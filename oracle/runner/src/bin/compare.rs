@@ -1,0 +1,90 @@
+//! `compare list FILE [EVERY]`: writes the generated cases (every EVERYth of them) with the Rust text's answers as an `ops` list.
+//! `compare file FILE`: compares the text with the answers of an `ops` list, over that list's cases.
+//! `compare booth`: compares the text with the linked library over all generated cases (feature `booth`).
+//! Ends with status 1 if some difference stands under no line, or, over the generated cases, if some line was never needed.
+use std::{env, fs, process::ExitCode};
+
+use runner::{
+    case::put_record,
+    cases, ops,
+    report::Report,
+    side::{records, Recorded, Side},
+};
+
+const SEED: u64 = 0x5eed_c0de;
+
+fn list(name: &str, every: u64) -> Result<bool, String> {
+    let (mut out, mut count, mut written) = (vec![], 0u64, 0u64);
+    cases::each(SEED, &mut |case| {
+        if count % every == 0 {
+            put_record(&mut out, &case, &ops::answer(&case));
+            written += 1;
+        }
+        count += 1;
+    });
+    fs::write(name, out).map_err(|e| format!("cannot write {name}: {e}"))?;
+    println!("{written} of {count} cases written");
+    Ok(true)
+}
+
+fn file(name: &str) -> Result<bool, String> {
+    let all = records(name)?;
+    let cases: Vec<_> = all.iter().map(|r| r.0).collect();
+    let mut side = Recorded::new(all);
+    let mut report = Report::default();
+    for case in cases {
+        report.add(&case, side.answer(&case)?);
+    }
+    report.print();
+    Ok(report.unexplained == 0)
+}
+
+#[cfg(feature = "booth")]
+fn booth() -> Result<bool, String> {
+    let mut side = runner::side::Linked;
+    let mut report = Report::default();
+    let mut failed = None;
+    cases::each(SEED, &mut |case| match side.answer(&case) {
+        Ok(answer) => report.add(&case, answer),
+        Err(words) => {
+            failed.get_or_insert(format!("{}: {words}", runner::report::case(&case)));
+        }
+    });
+    report.print();
+    let unseen = report.never_needed();
+    if !unseen.is_empty() {
+        println!("lines never needed: {}", unseen.join(" "));
+    }
+    match failed {
+        Some(words) => Err(words),
+        None => Ok(report.unexplained == 0 && unseen.is_empty() && report.covered() == (163_350, 495)),
+    }
+}
+
+#[cfg(not(feature = "booth"))]
+fn booth() -> Result<bool, String> {
+    Err("built without the feature booth".into())
+}
+
+fn main() -> ExitCode {
+    std::panic::set_hook(Box::new(|_| ()));
+    let words: Vec<String> = env::args().skip(1).collect();
+    let words: Vec<&str> = words.iter().map(String::as_str).collect();
+    let done = match words[..] {
+        ["list", name] => list(name, 1),
+        ["list", name, every] => {
+            every.parse().map_err(|_| "EVERY is a number".into()).and_then(|n: u64| list(name, n.max(1)))
+        }
+        ["file", name] => file(name),
+        ["booth"] => booth(),
+        _ => Err("compare list FILE [EVERY] | compare file FILE | compare booth".into()),
+    };
+    match done {
+        Ok(true) => ExitCode::SUCCESS,
+        Ok(false) => ExitCode::FAILURE,
+        Err(words) => {
+            eprintln!("compare: {words}");
+            ExitCode::from(2)
+        }
+    }
+}
