@@ -9,8 +9,6 @@ use lib.Dec.{eqb, ltb}
 use lib.ListN.{length, replicate, List·getD-eq-default}
 use borrow.Author.Tests.{eq-eqb, ne-eqb, eqb-true, lt-ltb, not-true, not-false}
 use Rattle.scalar.specs.Pattern.{pick, properOf, keptOf}
-use Rattle.shape.specs.Meaning.{valueOf}
-use Rattle.slot.specs.Slot.{bytesOf}
 use Rattle.slot.proofs.Parts.{le-or-lt}
 use Rattle.sheet.specs.declared.Checked.{Checked}
 use Rattle.sheet.specs.declared.Checked.the-variants as checked
@@ -28,7 +26,7 @@ use Rattle.fold.specs.declared.Folded.the-variants.{Done, Refused}
 use Rattle.fold.specs.declared.turns.Setting.{Setting}
 use Rattle.fold.specs.declared.turns.Setting.the-variants.{Of, None}
 use Rattle.fold.specs.Fresh.{entryAt, meansOf, refsOf, foldedOf, freshAnswer, freshBytes}
-use Rattle.fold.specs.Change.{content, isSetting, typeOf, faultOf, depends, changed, tally, changeAnswer, changeBytes, changeMarks}
+use Rattle.fold.specs.Change.{content, isSetting, typeOf, faultOf, depends, changed, tally, changeAnswer, changeBytes, changeMarks, contentBytes}
 use Rattle.fold.specs.Inside.{At, SettingAt, Accepted, FillsAll, Found, Judged, Ready, Applied}
 use Rattle.fold.proofs.Places.{at-read, at-body, no-setting, the-setting}
 
@@ -198,6 +196,6 @@ module _ (s : List ℕ) (x : Checked) (e : x ≡ checkedOf (readSheet s)) where
         change-done r ms ns count g =
             let w = g (read .0) first here (read .3) in (
               rw (read .2, ← judged, z) (ap Done (w .counted ∙ ap (tally (depends (refsOf (read .0)) i)) (sym (read .3)))),
-              rw (read .2, ← judged, z) (w .wrote ∙ ap (λ (k : ℕ). changed (meansOf (read .0)) (refsOf (read .0)) i (bytesOf (valueOf (content ty bits))) k l) (sym (read .3))),
+              rw (read .2, ← judged, z) (w .wrote ∙ ap (λ (k : ℕ). changed (meansOf (read .0)) (refsOf (read .0)) i (contentBytes ty bits) k l) (sym (read .3))),
               rw (read .2, ← judged, z) (w .marked),
             )

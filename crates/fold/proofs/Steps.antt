@@ -23,7 +23,7 @@ use Rattle.sheet.specs.Node.{namesIn, anyMarked}
 use Rattle.sheet.specs.Record.{readHead, partOf}
 use Rattle.fold.specs.declared.turns.Advance.{Advance}
 use Rattle.fold.specs.Fresh.{entryAt, meansOf, refsOf, worked, fresh}
-use Rattle.fold.specs.Change.{any, depends, touched, over, changed, tally, table, content}
+use Rattle.fold.specs.Change.{any, depends, touched, over, changed, tally, table, content, contentBytes}
 use Rattle.fold.specs.Inside.{Bodied, BodyMeans, At, Here, Next, Fills, Turns, Accepted, FillsAll, Found, Ready, Applied}
 use Rattle.fold.proofs.Worked.{worked-more, worked-none}
 use Rattle.fold.proofs.Depend.{any-nothing, touched-self, not-before, no-depends, depends-is, marked-depends, tally-more, tally-none, tally-small}
@@ -155,7 +155,7 @@ unfolding table
 table-long p zero = refl
 table-long p (suc n) = omega (arith, length-append (table p n) (p n ∷ []), table-long p n)
 
-table-at : (p : ℕ → Bool) (n i : ℕ) → i < n → getD (table p n) i false ≡ p i
+pub table-at : (p : ℕ → Bool) (n i : ℕ) → i < n → getD (table p n) i false ≡ p i
 unfolding table
 table-at p zero i h = absurd (not-suc-le-zero h)
 table-at p (suc n) i h =
@@ -257,10 +257,10 @@ module _ (s : List ℕ) (es : List Entry) (n i : ℕ) (c l : List ℕ) (first : 
 -- the same for whichever entries were accepted, over the buffer as it was before the content was put
 unfoldable pub TurningAll : List ℕ → ℕ → ℕ → ℕ → ℕ → ℕ → List ℕ → ℕ → ℕ → List ℕ → List Bool → ℕ → Type 0
 TurningAll s n i place ty bits start k at r ms count =
-    (es : List Entry) → At s es 0 0 → At s es i place → length es ≡ n → (l : List ℕ) → start ≡ put l i (bytesOf (valueOf (content ty bits)))
-    → Turning s es n i (bytesOf (valueOf (content ty bits))) l k at r ms count
+    (es : List Entry) → At s es 0 0 → At s es i place → length es ≡ n → (l : List ℕ) → start ≡ put l i (contentBytes ty bits)
+    → Turning s es n i (contentBytes ty bits) l k at r ms count
 
-pub put-content : (l : List ℕ) (i ty bits : ℕ) (v : Instance) (o : Outcome) (r : List ℕ) → v ≡ content ty bits → o ≡ valueOf v → r ≡ put l i (bytesOf o) → r ≡ put l i (bytesOf (valueOf (content ty bits)))
+pub put-content : (l : List ℕ) (i ty bits : ℕ) (v : Instance) (o : Outcome) (r : List ℕ) → v ≡ content ty bits → o ≡ valueOf v → r ≡ put l i (bytesOf o) → r ≡ put l i (contentBytes ty bits)
 put-content l i ty bits v o r e q h = h ∙ ap (λ (x : Outcome). put l i (bytesOf x)) (q ∙ ap valueOf e)
 
 pub ready-few : (s : List ℕ) (n i place : ℕ) → Ready s n i place → i < 128
@@ -281,18 +281,18 @@ pub turning-start : (s : List ℕ) (n i place ty bits at : ℕ) (start : List �
     → TurningAll s n i place ty bits start (i + 1) at start (set (replicate 128 false) i true) 0
 unfolding TurningAll Next
 turning-start s n i place ty bits at start h w = λ es p q c l e.
-    turning-none s es n i (bytesOf (valueOf (content ty bits))) l p c at start h (w es i q (omega arith)) e
+    turning-none s es n i (contentBytes ty bits) l p c at start h (w es i q (omega arith)) e
 
 module _ (s : List ℕ) (n i place ty bits : ℕ) (start : List ℕ) (k at : ℕ) (r : List ℕ) (ms : List Bool) (count : ℕ) (f : TurningAll s n i place ty bits start k at r ms count) where
   pub turning-next : k < n → (x : List ℕ) (ns : List Bool) (t : Advance) → Turns s k at r x ms ns t → TurningAll s n i place ty bits start (k + 1) (t .next) x ns (count + t .count)
   unfolding TurningAll
-  turning-next h x ns t w = λ es p q c l e. turning-more s es n i (bytesOf (valueOf (content ty bits))) l p c k at r ms count (f es p q c l e) h x ns t w
+  turning-next h x ns t w = λ es p q c l e. turning-more s es n i (contentBytes ty bits) l p c k at r ms count (f es p q c l e) h x ns t w
 
-  module _ (l : List ℕ) (e : start ≡ put l i (bytesOf (valueOf (content ty bits)))) where
+  module _ (l : List ℕ) (e : start ≡ put l i (contentBytes ty bits)) where
     pub turning-done : k ≤ n → n ≤ k → Applied s n i place ty bits l r ms count
     unfolding Applied TurningAll
     turning-done h g = λ es p q c.
-        let w = turning-end s es n i (bytesOf (valueOf (content ty bits))) l p c k at r ms count (f es p q c l e) h g in
+        let w = turning-end s es n i (contentBytes ty bits) l p c k at r ms count (f es p q c l e) h g in
         record { wrote = sym (w .0); marked = w .1; counted = w .2 }
 
     module _ (y : Ready s n i place) where

@@ -2,11 +2,11 @@
 use mathlib.Core.Path.{_≡_, refl, sym, ap, _∙_}
 use mathlib.Core.List.{List, []}
 use mathlib.Core.Bool.{Bool, true, false, false≢true}
-use mathlib.Core.Logic.{_≢_}
+use mathlib.Core.Logic.{_≢_, ⊎-elim, _⊎_, inl, inr}
 use Prim.Native.Nat.{ℕ, _*_, _<_}
 use native.Mathlib.Omega.{arith}
 use lib.Dec.{eqb}
-use lib.ListN.{length, set, length-set}
+use lib.ListN.{length, set, length-set, getD}
 use lib.Seq.{getD-set-same, getD-set-other}
 use borrow.Author.Tests.{eq-eqb, eqb-true, eqb-false}
 use Rattle.shape.specs.declared.Instance.{Instance}
@@ -20,17 +20,15 @@ use Rattle.sheet.proofs.Sheets.{sheet-good}
 use Rattle.fold.specs.declared.Folded.the-variants.{Done}
 use Rattle.fold.specs.Meaning.{entryMeaning}
 use Rattle.fold.specs.Fresh.{entryAt, meansOf, refsOf, worked, fresh, freshBytes}
-use Rattle.fold.specs.Change.{content, isSetting, faultOf, depends, over, changed, tally, changeAnswer, changeBytes}
-use Rattle.fold.specs.Demand.{Changed}
+use Rattle.fold.specs.Change.{content, contentBytes, isSetting, faultOf, depends, over, changed, tally, changeAnswer, changeBytes, touched, table, changeMarks}
+use Rattle.fold.specs.Demand.{Changed, Leads}
 use Rattle.fold.specs.Inside.{At}
+use Rattle.fold.proofs.Steps.{table-at}
+use Rattle.fold.proofs.Depend.{or-cases, touched-self, depends-leads, touched-leads}
 use Rattle.fold.proofs.Worked.{worked-same}
 use Rattle.fold.proofs.Changes.{Ordered, over-here, over-there, changed-is, changed-only, changed-fresh, all-any, commute}
-use Rattle.fold.proofs.Places.{ordered}
+use Rattle.fold.proofs.Places.{ordered, at-few}
 use Rattle.fold.proofs.Answers.{Fine, fine}
-
--- the bytes of new content
-abbrev pub contentBytes : ℕ → ℕ → List ℕ
-contentBytes ty bits = bytesOf (valueOf (content ty bits))
 
 -- a setting names nothing
 names-none : (x : Entry) → isSetting x ≡ true → namesOf x ≡ []
@@ -95,6 +93,22 @@ module _ (s : List ℕ) (es : List Entry) (z : ℕ) (good : readSheet s ≡ foun
 
     bytes-long-still : length (changeBytes (readSheet s) l i ty bits) ≡ length l
     bytes-long-still = demand .2 .long ∙ sym (passed .sized)
+
+    marks-are : (ms : List Bool) → changeMarks (readSheet s) l i ty bits ms ≡ table (touched (refsOf es) i) 128
+    unfolding changeMarks
+    marks-are ms = rw (good, ok)
+
+    mark-at : (ms : List Bool) (k : ℕ) → k < length es → getD (changeMarks (readSheet s) l i ty bits ms) k false ≡ touched (refsOf es) i k
+    mark-at ms k h = ap (λ (t : List Bool). getD t k false) (marks-are ms) ∙ table-at (touched (refsOf es) i) 128 k (omega (arith, at-few s es 0 first))
+
+    -- the entries marked are the setting and those from which a chain of references leads to it
+    pub marked-only : (ms : List Bool) (k : ℕ) → k < length es → getD (changeMarks (readSheet s) l i ty bits ms) k false ≡ true → (k ≡ i) ⊎ Leads (refsOf es) i k
+    marked-only ms k h e =
+        ⊎-elim (λ q. inl (eqb-true k i q)) (λ q. inr (depends-leads (refsOf es) i (ord .earlier) k q)) (or-cases (eqb k i) _ (sym (mark-at ms k h) ∙ e))
+
+    pub marked-all : (ms : List Bool) (k : ℕ) → k < length es → (k ≡ i) ⊎ Leads (refsOf es) i k → getD (changeMarks (readSheet s) l i ty bits ms) k false ≡ true
+    marked-all ms k h (inl q) = mark-at ms k h ∙ ap (touched (refsOf es) i) q ∙ touched-self (refsOf es) i (ord .earlier)
+    marked-all ms k h (inr q) = mark-at ms k h ∙ touched-leads (refsOf es) i (ord .earlier) q
 
   -- fresh results become the fresh results of the sheet with that setting replaced
   pub fresh-again : (l : List ℕ) (i ty bits : ℕ) → length l ≡ 136 * length es → faultOf es (length (fresh es l)) i ty bits ≡ 0

@@ -18,6 +18,10 @@ use Rattle.fold.specs.Fresh.{Means, entryAt, meansOf, refsOf, worked, si
 unfoldable pub content : ℕ → ℕ → Instance
 content ty bits = record { ty = ty; cols = 1; rows = 1; comps = keptOf ty bits ∷ replicate 15 0 }
 
+-- its bytes as a slot
+abbrev pub contentBytes : ℕ → ℕ → List ℕ
+contentBytes ty bits = bytesOf (valueOf (content ty bits))
+
 -- a setting and its type are those of its body in the sheet
 unfoldable pub isSetting : Entry → Bool
 isSetting (setting v) = true
@@ -81,7 +85,7 @@ changeAnswer (refused k p) l i ty bits = Refused k p
 -- the buffer afterwards; a refusal changes no byte
 unfoldable pub changeBytes : Read (List Entry) → List ℕ → ℕ → ℕ → ℕ → List ℕ
 changeBytes (found es n) l i ty bits =
-    pick (eqb (faultOf es (length l) i ty bits) 0) (changed (meansOf es) (refsOf es) i (bytesOf (valueOf (content ty bits))) (length es) l) l
+    pick (eqb (faultOf es (length l) i ty bits) 0) (changed (meansOf es) (refsOf es) i (contentBytes ty bits) (length es) l) l
 changeBytes (refused k p) l i ty bits = l
 
 -- the marks afterwards: of 128 entries those that were worked; a refusal changes none

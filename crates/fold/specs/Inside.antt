@@ -7,8 +7,7 @@ use lib.ListN.{length, take, set}
 use lib.Dec.{ltb}
 use Rattle.scalar.specs.Pattern.{pick}
 use Rattle.shape.specs.declared.Outcome.{Outcome}
-use Rattle.shape.specs.Meaning.{valueOf}
-use Rattle.slot.specs.Slot.{bytesOf, put}
+use Rattle.slot.specs.Slot.{put}
 use Rattle.sheet.specs.Read.{found}
 use Rattle.sheet.specs.Tree.{Expr, Entry}
 use Rattle.sheet.specs.Node.{readNode, anyMarked}
@@ -20,7 +19,7 @@ use Rattle.fold.specs.declared.turns.Setting.{Setting}
 use Rattle.fold.specs.declared.turns.Setting.the-variants.{Of, None}
 use Rattle.fold.specs.Meaning.{meaning, entryMeaning}
 use Rattle.fold.specs.Fresh.{entryAt, meansOf, refsOf, fresh}
-use Rattle.fold.specs.Change.{isSetting, typeOf, faultOf, content, depends, touched, changed, tally, table}
+use Rattle.fold.specs.Change.{isSetting, typeOf, faultOf, contentBytes, depends, touched, changed, tally, table}
 
 -- ---- a node
 -- this tree stands at this place of a body and ends there
@@ -126,7 +125,7 @@ pub record Ready (s : List ℕ) (n i place : ℕ) : Type 0 where
 
 -- entry i of n was given the content, and its dependents were worked, marked and counted
 pub record AppliedTo (es : List Entry) (n i ty bits : ℕ) (l r : List ℕ) (ms : List Bool) (count : ℕ) : Type 0 where
-  pub wrote : r ≡ changed (meansOf es) (refsOf es) i (bytesOf (valueOf (content ty bits))) n l
+  pub wrote : r ≡ changed (meansOf es) (refsOf es) i (contentBytes ty bits) n l
   pub marked : ms ≡ table (touched (refsOf es) i) 128
   pub counted : count ≡ tally (depends (refsOf es) i) n
 
