@@ -14,8 +14,8 @@ cast-n-2 c = search needs
 
 mul-n : tie.Need-mul-n
 mul-n c =
-    let a : c .args .o .cols ≤ 255 = omega arith in
-    let b : c .args .o .rows ≤ 255 = omega arith in
+    let a : c .before .before .args .o .cols ≤ 255 = omega arith in
+    let b : c .before .before .args .o .rows ≤ 255 = omega arith in
     omega (arith, mul-le-mul a b)
 
 returns : tie.Need-returns
