@@ -56,16 +56,19 @@ lane xs a s i = getD xs (a + i * s) 0
 abbrev pub strideOf : Shape → ℕ
 strideOf s = pick (isScalar s) 0 1
 
--- component i of a binary operator, of a unary one, and of a conversion
+-- vectors go by component: component i of a binary operator
 abbrev pub pairAt : ℕ → ℕ → ℕ → (ℕ → ℕ) → (ℕ → ℕ) → ℕ → Out ℕ
 pairAt op stage ty x y i = bitsOf (stepOf op stage ty (x i) (y i))
 
+-- component i of a unary operator
 abbrev pub unaryAt : ℕ → ℕ → List ℕ → ℕ → Out ℕ
 unaryAt op ty xs i = bitsOf (unaryStepOf op ty (partOf xs i))
 
+-- component i of a conversion; one to the same type keeps a NaN as the kept one
 abbrev pub convAt : ℕ → ℕ → List ℕ → ℕ → Out ℕ
 convAt from to xs i = convBits (convOf from to (partOf xs i))
 
+-- ---- for the contracts of private functions
 -- the record that carries a run's components or its refusal
 abbrev pub outOf : Run → Out (List ℕ)
 outOf r = pick (r .stopped) (stop (r .refusal)) (got (r .comps))

@@ -39,11 +39,12 @@ abbrev pub answer : Out (List ℕ) → ℕ → ℕ → ℕ → Outcome
 answer (got cs) ty c r = valueOf (record { ty = ty; cols = c; rows = r; comps = cs })
 answer (stop r) ty c w = refusedWith (r .number) (r .detail)
 
--- by component; a scalar stands for every component of the other operand
+-- by component, of the shape s; a scalar stands for every component of the other operand
 abbrev pub compwiseAs : Shape → ℕ → ℕ → ℕ → Shape → List ℕ → Shape → List ℕ → Outcome
 compwiseAs s op stage ty a xs b ys =
     answer (worked (pairAt op stage ty (lane xs 0 (strideOf a)) (lane ys 0 (strideOf b))) (countOf s)) (resultType op ty) (s .cols) (s .rows)
 
+-- vectors go by component; the answer's shape is that of the operand that is no scalar
 unfoldable pub compwise : ℕ → ℕ → ℕ → Shape → List ℕ → Shape → List ℕ → Outcome
 compwise op stage ty a xs b ys = compwiseAs (larger a b) op stage ty a xs b ys
 

@@ -10,10 +10,11 @@ use Rattle.shape.specs.declared.operand.Shape.{Shape}
 use Rattle.shape.specs.declared.pairing.Targets.{Targets}
 use Rattle.shape.specs.declared.pairing.Targets.the-variants as T
 
--- 1 `||`, 2 `&&`, 3 to 7 `+ - * / %`, 8 to 13 `== != < <= > >=`, 14 to 16 `| & ^`, 17 `<<`, 18 `>>`; 1 `!`, 2 `-`, 3 `~`
+-- 1 `||`, 2 `&&`, 3 to 7 `+ - * / %`, 8 to 13 `== != < <= > >=`, 14 to 16 `| & ^`, 17 `<<`, 18 `>>`
 abbrev pub opKnown : ℕ → Bool
 opKnown op = leb 1 op && leb op 18
 
+-- 1 `!`, 2 `-`, 3 `~`
 abbrev pub unaryKnown : ℕ → Bool
 unaryKnown op = leb 1 op && leb op 3
 
@@ -23,6 +24,7 @@ stageCode Const = 0
 stageCode Override = 1
 stageCode Exec = 2
 
+-- no other code is a stage of evaluation
 abbrev pub stageKnown : ℕ → Bool
 stageKnown stage = leb stage 2
 
@@ -60,10 +62,11 @@ innerOk a b = (eqb (a .cols) 1 && eqb (a .rows) (b .rows)) || (leb 2 (a .cols) &
 abbrev pub sameShape : Shape → Shape → Bool
 sameShape a b = isScalar a || isScalar b || (eqb (a .cols) (b .cols) && eqb (a .rows) (b .rows))
 
--- the shapes fit, and the number that answers where they do not: Binary for a product's inner sizes, else CompwiseBinary
+-- equal shape; for a product that sums, its inner sizes
 abbrev pub fitsOf : ℕ → Shape → Shape → Bool
 fitsOf op a b = pick (isProduct op a b) (innerOk a b) (sameShape a b)
 
+-- shapes that do not fit: Binary for a product's inner sizes, else CompwiseBinary
 abbrev pub misfitOf : ℕ → Shape → Shape → ℕ
 misfitOf op a b = pick (isProduct op a b) 2 3
 
