@@ -147,6 +147,16 @@ def shape_grid(rng):
         yield 2, op, stage, value(rng, lt, left, pick), value(rng, rt, right, pick)
 
 
+def type_grid(rng):
+    """Every operator, stage and pair of types, on two vectors of one size and on shapes drawn from those that the types have."""
+    for op, stage, lt, rt in itertools.product(BINARY_OPS, STAGES, TYPES, TYPES):
+        size = rng.choice(VECTORS)
+        drawn = rng.choice(pools.shapes_for(lt)), rng.choice(pools.shapes_for(rt))
+        for left, right in ((size, size), drawn):
+            pick = tame if rng.randrange(4) else mixed
+            yield 2, op, stage, value(rng, lt, left, pick), value(rng, rt, right, pick)
+
+
 def fitting_shapes(op):
     """The pairs of shapes, one of them no scalar, that an operator works on."""
     same = [(shape, shape) for shape in VECTORS]
@@ -320,7 +330,7 @@ def conversion_order(rng):
 def ops_shape(rng):
     """The cases of `ops_shape`."""
     table = [case for case in table_cases() if "scalar" != case[3].kind or "scalar" != case[4].kind]
-    parts = (shape_grid, fitting_grid, unary_shapes, unequal, refusal_order, product_order, malformed,
+    parts = (shape_grid, type_grid, fitting_grid, unary_shapes, unequal, refusal_order, product_order, malformed,
              unknown_codes, garbage_beyond, shape_mismatch, conversion_order)
     return itertools.chain(table, *(part(rng) for part in parts))
 

@@ -122,6 +122,11 @@ def types_for(shape):
     return FLOAT_TYPES if shape in MATRICES else tuple(range(7))
 
 
+def shapes_for(ty):
+    """The shapes that go with a type."""
+    return [shape for shape in SHAPES if ty in types_for(shape)]
+
+
 def meeting_pairs(left_shape, right_shape):
     """Type pairs of two shapes that have a common type."""
     pairs = [(a, b) for a in types_for(left_shape) for b in types_for(right_shape)]

@@ -9,6 +9,8 @@ import sys
 
 import floats
 import fold
+import list_ops
+import pools
 import shapes
 import slots
 from example import AFTER, BEFORE, SHEET
@@ -122,8 +124,23 @@ def test_conversion():
         assert floats.from_whole(floats.F64, number) == machine_bits("F64", float(number))
 
 
+def test_coverage():
+    """The list of shapes asks every operator and stage of every pair of shapes, and of every pair of types beyond scalars."""
+    shape_pairs, type_pairs = set(), set()
+    for kind, op, stage, left, right in list_ops.ops_shape(random.Random(1)):
+        if kind == 2 and op in list_ops.BINARY_OPS and stage in list_ops.STAGES:
+            shape_pairs.add((op, stage, left.cols, left.rows, right.cols, right.rows))
+            if (left.cols, left.rows) != pools.SCALAR or (right.cols, right.rows) != pools.SCALAR:
+                type_pairs.add((op, stage, left.ty, right.ty))
+    for op, stage in itertools.product(list_ops.BINARY_OPS, list_ops.STAGES):
+        for left, right in itertools.product(pools.SHAPES, pools.SHAPES):
+            assert (op, stage) + left + right in shape_pairs, (op, stage, left, right)
+        for left, right in itertools.product(list_ops.TYPES, list_ops.TYPES):
+            assert (op, stage, left, right) in type_pairs, (op, stage, left, right)
+
+
 def main():
-    for test in (test_table, test_example, test_places, test_arithmetic, test_conversion):
+    for test in (test_table, test_example, test_places, test_arithmetic, test_conversion, test_coverage):
         test()
         print(test.__name__, "passed")
 
