@@ -8,9 +8,9 @@ ghost use Rattle.shape.specs.Components.{got, outOf, worked, endedBy, la
 
 // The components of an operation, or the refusal that stopped it.
 pub(crate) struct Run {
-    pub(crate) stopped: bool,
-    pub(crate) refusal: Refusal,
     pub(crate) comps: [u64; 16],
+    pub(crate) refusal: Refusal,
+    pub(crate) stopped: bool,
 }
 
 // A run that went to its end.

@@ -17,19 +17,20 @@ mod operators;
 mod pairing;
 mod products;
 
-// A scalar, vector or matrix: its type, columns, rows and components, column by column.
+// A scalar, vector or matrix: its components, column by column, and its type, columns and rows. The components stand first, at
+// an even place, where a copy of them is cheapest.
 pub struct Instance {
+    pub comps: [u64; 16],
     pub ty: u8,
     pub cols: u8,
     pub rows: u8,
-    pub comps: [u64; 16],
 }
 
 // An answer: status 0 and a value, or a refusal's number and detail and a value of zeros.
 pub struct Outcome {
-    pub status: u8,
-    pub detail: u32,
     pub value: Instance,
+    pub detail: u32,
+    pub status: u8,
 }
 
 // A refusal as an answer.
