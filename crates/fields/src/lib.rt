@@ -1,7 +1,7 @@
 // Fields of a string of bytes. A byte past its end reads as 0, so that no place needs a proof.
 ghost use mathlib.Core.Path.{_≡_};
-ghost use Prim.Native.Nat.{_+_, _*_, _<_};
-ghost use lib.ListN.{getD, take, drop};
+ghost use Prim.Native.Nat.{_+_, _*_, _<_, _≤_};
+ghost use lib.ListN.{length, getD, take, drop};
 ghost use Rattle.fields.specs.Field.{four, eight, nth, sixteen};
 
 // The byte at a place.
@@ -11,25 +11,25 @@ pub fn byte(s: &[u8], at: usize) -> u8
     if at < s.len() { s[at] } else { 0 }
 }
 
-// The byte at a place, as a number that sums can hold.
-fn wide(s: &[u8], at: usize) -> u64
-    ensures { λ r. ⌜ (r ≡ getD (now (s .entry)) at 0) × (r < 256) ⌝ }
+// A byte, as a number that sums can hold.
+fn wide(x: u8) -> u64
+    ensures { λ r. ⌜ (r ≡ x) × (r < 256) ⌝ }
 {
-    byte(s, at) as u64
+    x as u64
 }
 
 // The number in the first four bytes.
 fn low_four(s: &[u8]) -> u64
     ensures { λ r. ⌜ (r ≡ four (now (s .entry)) 0) × (r < 4294967296) ⌝ }
 {
-    wide(s, 0) + 256 * (wide(s, 1) + 256 * (wide(s, 2) + 256 * wide(s, 3)))
+    wide(byte(s, 0)) + 256 * (wide(byte(s, 1)) + 256 * (wide(byte(s, 2)) + 256 * wide(byte(s, 3))))
 }
 
 // The number in the four bytes after those.
 fn high_four(s: &[u8]) -> u64
     ensures { λ r. ⌜ (r ≡ four (now (s .entry)) 4) × (r < 4294967296) ⌝ }
 {
-    wide(s, 4) + 256 * (wide(s, 5) + 256 * (wide(s, 6) + 256 * wide(s, 7)))
+    wide(byte(s, 4)) + 256 * (wide(byte(s, 5)) + 256 * (wide(byte(s, 6)) + 256 * wide(byte(s, 7))))
 }
 
 // The number in the four bytes at a place, low byte first.
@@ -60,21 +60,41 @@ pub fn part(s: &[u8], at: usize, n: usize) -> &[u8]
     &s[at..e]
 }
 
+// The number in four bytes that are all there: no byte's place is tested.
+fn half(s: &[u8], at: usize) -> u64
+    requires { ⌜ at + 4 ≤ length (now s) ⌝ }
+    ensures { λ r. ⌜ (r ≡ four (now (s .entry)) at) × (r < 4294967296) ⌝ }
+{
+    wide(s[at]) + 256 * (wide(s[at + 1]) + 256 * (wide(s[at + 2]) + 256 * wide(s[at + 3])))
+}
+
+// The number in eight bytes that are all there.
+fn whole(s: &[u8], at: usize) -> u64
+    requires { ⌜ at + 8 ≤ length (now s) ⌝ }
+    ensures { λ r. ⌜ r ≡ eight (take 8 (drop at (now (s .entry)))) ⌝ }
+{
+    half(s, at) + 0x1_0000_0000 * half(s, at + 4)
+}
+
 // Number i of those that follow one another in eight bytes each.
 fn nth(s: &[u8], i: usize) -> u64
     requires { ⌜ i < 16 ⌝ }
     ensures { λ r. ⌜ r ≡ nth (now (s .entry)) i ⌝ }
 {
-    number(part(s, 8 * i, 8))
+    let at = 8 * i;
+    if at + 8 <= s.len() {
+        return whole(s, at);
+    }
+    number(part(s, at, 8))
 }
 
-// The sixteen numbers of eight bytes from the start of s on.
+// The sixteen numbers of eight bytes from the start of s on. Those of which no byte is there are 0, and are not looked for.
 pub fn numbers(s: &[u8]) -> [u64; 16]
     ensures { λ r. ⌜ r ≡ sixteen (now (s .entry)) ⌝ }
 {
     let mut xs = [0u64; 16];
     let mut i = 0;
-    while i < 16 {
+    while (i < 16) & (8 * i < s.len()) {
         xs[i] = nth(s, i);
         i += 1;
     }

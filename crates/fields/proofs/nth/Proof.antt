@@ -7,8 +7,18 @@ use Rattle.fields.specs.Field.{eight, nth}
 use Rattle.fields.proofs.nth.Statement.{statement}
 use Rattle.fields.proofs.nth.Tie as tie
 
-mul-part : tie.Need-mul-part
-mul-part c = search needs
+mul-at : tie.Need-mul-at
+mul-at c = search needs
+
+add-if1 : tie.Need-add-if1
+add-if1 c = search needs
+
+whole-requires : tie.Need-whole-requires
+whole-requires c κs = search needs
+
+returns : tie.Need-returns
+unfolding nth
+returns c = c .whole .ensures
 
 part-requires : tie.Need-part-requires
 part-requires c κs = search needs
@@ -16,9 +26,9 @@ part-requires c κs = search needs
 number-requires : tie.Need-number-requires
 number-requires c κs = search needs
 
-returns : tie.Need-returns
+returns-2 : tie.Need-returns-2
 unfolding nth
-returns c = c .number .ensures ∙ ap (λ (l : List ℕ). eight l) (c .before .part .ensures)
+returns-2 c = c .number .ensures ∙ ap (λ (l : List ℕ). eight l) (c .before .part .ensures)
 
 pub nth-spec : {M : Type 1} → statement M
-nth-spec = tie.close (tie.spec mul-part part-requires number-requires returns)
+nth-spec = tie.close (tie.spec mul-at add-if1 whole-requires returns part-requires number-requires returns-2)

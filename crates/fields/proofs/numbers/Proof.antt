@@ -1,54 +1,43 @@
--- `fields::numbers` meets its contract, and its loop ends.
-use borrow.Author.Needs.{needs}
-use mathlib.Core.Path.{_≡_, refl}
-use lib.ListN.{length, take, length-set}
-use Rattle.fields.specs.Field.{nth, sixteen, tab}
-use Rattle.fields.proofs.Sixteen.{tab-more, tab-all}
+-- `fields::numbers` meets its contract, and its loop ends: the measure is how many numbers are not yet read.
 use native.Mathlib.Omega.{arith}
-use Prim.Native.Nat.{_-_, _≤_}
+use Prim.Native.Nat.{_-_, _<_}
+use borrow.Author.Tests.{ltb-false}
+use Rattle.fields.proofs.Sixteen.{Reading, reading-none, reading-more, reading-all, on, stop}
 use Rattle.fields.proofs.numbers.Statement.{statement}
 use Rattle.fields.proofs.numbers.Tie as tie
 
 abbrev Inv-loop : tie.InvT-loop
-Inv-loop s xs₀ i₀ xs i = (length xs ≡ 16) × (i ≤ 16) × (take i xs ≡ tab (nth s) i)
+Inv-loop s xs₀ i₀ xs i = Reading s xs i
 
 abbrev μ-loop : tie.MeasureT-loop
 μ-loop s xs₀ i₀ xs i = 16 - i
 
 loop-holds : tie.Need-loop-holds Inv-loop μ-loop
-unfolding tab
-loop-holds c = (search needs, omega arith, refl)
+loop-holds c = reading-none _
+
+mul-loop : tie.Need-mul-loop Inv-loop μ-loop
+mul-loop c = omega arith
 
 nth-requires : tie.Need-nth-requires Inv-loop μ-loop
-nth-requires c κs = omega arith
+nth-requires c κs = on _ _ (c .loop-test .taken)
 
 mul-xs : tie.Need-mul-xs Inv-loop μ-loop
 mul-xs c = omega arith
 
 array-write-xs : tie.Need-array-write-xs Inv-loop μ-loop
-array-write-xs c = omega arith
+array-write-xs c = on _ _ (c .before .loop-test .taken)
 
 add-i : tie.Need-add-i Inv-loop μ-loop
 add-i c = omega arith
 
 loop-less : tie.Need-loop-less Inv-loop μ-loop
-loop-less c = omega arith
+loop-less c = let h : c .before .before .loop .i < 16 = on _ _ (c .before .loop-test .taken) in omega arith
 
 loop-again : tie.Need-loop-again Inv-loop μ-loop
-loop-again c =
-    let s = c .before .before .before .before .args in
-    let l = c .before .before .loop in
-    let v = c .nth in (
-      simp length-set (l .inv .0),
-      omega arith,
-      tab-more (nth (s .s .now)) (l .xs) (l .i) (v .result) (omega arith) (l .inv .2) (v .ensures),
-    )
+loop-again c = reading-more _ (c .before .before .loop .inv) (on _ _ (c .before .loop-test .taken)) (c .nth .ensures)
 
 returns : tie.Need-returns Inv-loop μ-loop
-unfolding sixteen
-returns c =
-    let l = c .before .loop in
-    tab-all (nth (c .before .before .before .args .s .now)) (l .xs) (l .i) (l .inv .0) (omega arith) (l .inv .2)
+returns c = reading-all (c .before .loop .inv) (λ h. ltb-false _ _ (stop _ _ (c .loop-test .left) h))
 
 pub numbers-spec : {M : Type 1} → statement M
 numbers-spec =
@@ -57,6 +46,7 @@ numbers-spec =
     Inv-loop
     μ-loop
     loop-holds
+    mul-loop
     nth-requires
     mul-xs
     array-write-xs
