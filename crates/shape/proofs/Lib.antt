@@ -10,3 +10,4 @@ pub mod Typed
 pub mod Outcomes
 pub mod Single
 pub mod Cases
+pub mod Impostors
