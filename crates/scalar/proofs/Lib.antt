@@ -12,5 +12,6 @@ pub mod Steps
 pub mod Sound
 pub mod Keeps
 pub mod Promises
+pub mod Reread
 pub mod Single
 pub mod Cases

@@ -8,6 +8,7 @@ pub mod Shaped
 pub mod Answers
 pub mod Typed
 pub mod Outcomes
+pub mod Stands
 pub mod Single
 pub mod Cases
 pub mod Impostors

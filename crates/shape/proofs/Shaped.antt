@@ -6,8 +6,9 @@ use Prim.Native.Nat.{ℕ, _≤_, _<_}
 use native.Mathlib.Omega.{arith}
 use native.Mathlib.Nat.{eq-or-lt-of-le}
 use lib.Dec.{eqb, leb}
-use borrow.Author.Tests.{leb-true, leb-false, eqb-true, le-leb, eq-eqb, ne-eqb}
+use borrow.Author.Tests.{leb-true, leb-false, eqb-true, le-leb, lt-leb, eq-eqb, ne-eqb}
 use Rattle.scalar.specs.Pattern.{pick}
+use Rattle.scalar.proofs.Reread.{rightType}
 use Rattle.shape.specs.Operand.{floatOf, shapeOk, isMatrix, Small}
 use Rattle.shape.specs.Pairing.{pairOk, goesTo, targetsOf}
 use Rattle.shape.specs.declared.operand.Shape.{Shape}
@@ -69,6 +70,12 @@ meets op lt rt x y e = go (leb 17 op) (eqb rt 1 || eqb rt 4) (eqb lt rt || goesT
         let v : rt ≡ y = cc in
         rw (← u, ← v) (rightward (leb-false _ _ p) r)
     go false b false false p q r f = let z : _≡_ {A = ℕ} 0 1 = cc in absurd (omega arith)
+
+-- a shift's count is a U32, any other right operand of the left's type
+pub meets-right : {op lt rt x y : ℕ} → Meets op lt rt x y → y ≡ rightType op x
+meets-right {op} (shift h) = rw (le-leb 17 op h)
+meets-right {op} (leftward h m) = rw (lt-leb 17 op h)
+meets-right {op} (rightward h m) = rw (lt-leb 17 op h)
 
 pub meets-known : {op lt rt x y : ℕ} → Meets op lt rt x y → lt ≤ 6 → rt ≤ 6 → x ≤ 6
 meets-known (shift h) p q = p

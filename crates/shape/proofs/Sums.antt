@@ -16,6 +16,12 @@ sum-more {A} add p (suc j) s v h e q =
     let b : suc j + 1 - 1 ≡ suc j = omega arith in
     rw b (q ∙ ap (λ (z : Out A). plusNext add z (p (suc j))) (rw a at e))
 
+-- sums of products that are the same one by one
+pub sum-same : {A : Type 0} (add : A → A → Out A) (p q : ℕ → Out A) (k : ℕ) → ((i : ℕ) → i ≤ k → p i ≡ q i) → sumTo add p k ≡ sumTo add q k
+unfolding sumTo
+sum-same add p q zero h = h 0 (omega arith)
+sum-same add p q (suc k) h = rw (sum-same add p q k (λ i z. h i (omega arith)), h (suc k) (omega arith))
+
 -- a run of sums that stands and a run of the next products: the second's refusal, or the sums with them
 module _ (add : List ℕ → List ℕ → Out (List ℕ)) (u w : Run) (p : Out (List ℕ)) (h : u .stopped ≡ false) (e : outOf w ≡ p) where
   pub next-stop : w .stopped ≡ true → outOf w ≡ plusNext add (outOf u) p

@@ -2,14 +2,17 @@
 use mathlib.Core.Path.{_≡_, refl, sym, ap, _∙_}
 use mathlib.Core.Bool.{Bool, true, false, _&&_}
 use mathlib.Core.List.{List, [], _∷_, _++_, append-assoc}
+use mathlib.Core.Logic.{⊎-elim}
 use Prim.Native.Nat.{ℕ, zero, suc, _+_, _-_, _<_}
 use native.Mathlib.Omega.{arith}
+use native.Mathlib.Nat.{eq-or-lt-of-le, le-of-suc-le-suc, not-suc-le-zero}
 use native.Mathlib.Numerals.{add-one}
-use lib.ListN.{length, set, replicate, length-append}
-use lib.Seq.{set-at}
+use lib.ListN.{length, getD, set, replicate, length-append, List·getD-append}
+use lib.Seq.{set-at, getD-at}
 use Rattle.scalar.specs.declared.Refusal.{Refusal}
 use Rattle.shape.specs.Operand.{upTo, every}
 use Rattle.shape.specs.Components.{Out, got, stop, andThen, through, filled, worked}
+use Rattle.shape.proofs.Places.{both}
 
 -- ---- a list with one component more
 abbrev next : List ℕ → Out ℕ → Out (List ℕ)
@@ -86,6 +89,46 @@ module _ (f : ℕ → Out ℕ) where
       let g : suc i + (m - suc i) ≡ m = omega arith in
       ap filled (rw g at (stays (suc i) (m - suc i) r s))
 
+-- ---- components that are the same one by one
+up-same : {A : Type 0} (f g : ℕ → A) (n : ℕ) → ((i : ℕ) → i < n → f i ≡ g i) → upTo f n ≡ upTo g n
+unfolding upTo
+up-same f g zero h = refl
+up-same f g (suc n) h = rw (up-same f g n (λ i z. h i (omega arith)), h n (omega arith))
+
+pub worked-same : (f g : ℕ → Out ℕ) (n : ℕ) → ((i : ℕ) → i < n → f i ≡ g i) → worked f n ≡ worked g n
+worked-same f g n h = ap (λ (s : List (Out ℕ)). filled (through s)) (up-same f g n h)
+
+-- ---- components of which none refuses
+module _ (g : ℕ → ℕ) where
+  through-got : (n : ℕ) → through (upTo (λ i. got (g i)) n) ≡ got (upTo g n)
+  unfolding upTo through
+  through-got zero = refl
+  through-got (suc n) = through-snoc (upTo (λ i. got (g i)) n) (got (g n)) ∙ ap (λ (o : Out (List ℕ)). andThen o (λ cs. next cs (got (g n)))) (through-got n)
+
+  up-long : (n : ℕ) → length (upTo g n) ≡ n
+  unfolding upTo
+  up-long zero = refl
+  up-long (suc n) = omega (arith, length-append (upTo g n) (g n ∷ []), up-long n)
+
+  up-at : (n i : ℕ) → i < n → getD (upTo g n) i 0 ≡ g i
+  unfolding upTo
+  up-at zero i h = absurd (not-suc-le-zero h)
+  up-at (suc n) i h =
+      ⊎-elim
+      (λ (e : i ≡ n). rw e (getD-at (upTo g n) (g n) [] 0 n (up-long n)))
+      (λ (l : i < n). List·getD-append (upTo g n) (g n ∷ []) 0 i (omega (arith, up-long n)) ∙ up-at n i l)
+      (eq-or-lt-of-le (le-of-suc-le-suc h))
+
+  -- all of them, unused ones 0: what is worked out, each at its place
+  abbrev pub allOf : ℕ → List ℕ
+  allOf n = upTo g n ++ replicate (16 - length (upTo g n)) 0
+
+  pub worked-got : (f : ℕ → Out ℕ) (n : ℕ) → ((i : ℕ) → i < n → f i ≡ got (g i)) → worked f n ≡ got (allOf n)
+  worked-got f n h = worked-same f (λ i. got (g i)) n h ∙ ap filled (through-got n)
+
+  pub all-at : (n i : ℕ) → i < n → getD (allOf n) i 0 ≡ g i
+  all-at n i h = List·getD-append (upTo g n) (replicate (16 - length (upTo g n)) 0) 0 i (omega (arith, up-long n)) ∙ up-at n i h
+
 -- ---- a test of every component
 every-snoc : (p : ℕ → Bool) (s : List ℕ) (x : ℕ) → every p (s ++ (x ∷ [])) ≡ (every p s && p x)
 unfolding every
@@ -103,3 +146,11 @@ every-snoc p (y ∷ s) x = rw (every-snoc p s x) (go (p y) (every p s) (p x))
 pub every-more : (p : ℕ → Bool) (f : ℕ → ℕ) (i : ℕ) (a b : Bool) → a ≡ every p (upTo f i) → b ≡ p (f i) → (a && b) ≡ every p (upTo f (i + 1))
 unfolding upTo
 every-more p f i a b e q = rw (add-one i, every-snoc p (upTo f i) (f i), e, q)
+
+-- where it holds of all it holds of each
+pub every-at : (p : ℕ → Bool) (f : ℕ → ℕ) (n : ℕ) → every p (upTo f n) ≡ true → (i : ℕ) → i < n → p (f i) ≡ true
+unfolding upTo
+every-at p f zero e i h = absurd (not-suc-le-zero h)
+every-at p f (suc n) e i h =
+    let k = both (every p (upTo f n)) (p (f n)) (sym (every-snoc p (upTo f n) (f n)) ∙ e) in
+    ⊎-elim (λ (q : i ≡ n). rw q (k .1)) (λ (l : i < n). every-at p f n (k .0) i l) (eq-or-lt-of-le (le-of-suc-le-suc h))

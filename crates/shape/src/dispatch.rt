@@ -22,8 +22,10 @@ use crate::Outcome;
 use crate::answered;
 use crate::refused;
 ghost use mathlib.Core.Path.{_≡_};
-ghost use Rattle.shape.specs.Operand.{shapeOf, Small};
+ghost use mathlib.Core.Bool.{true};
+ghost use Rattle.shape.specs.Operand.{shapeOf, Small, goodOf};
 ghost use Rattle.shape.specs.Components.{outOf, strideOf};
+ghost use Rattle.shape.specs.Pairing.{targetsOf};
 ghost use Rattle.shape.specs.Meaning.{answer, compwise, multiplied, typed, convertedTo, judged, unaryJudged};
 
 // A run as an answer of a type and shape.
@@ -103,9 +105,9 @@ fn work(op: u8, stage: u8, ty: u8, a: Shape, x: &[u64; 16], b: Shape, y: &[u64; 
     componentwise(op, stage, ty, a, x, b, y)
 }
 
-// Conversions of both operands, left first, and what comes after.
+// Conversions of both operands, left first, and what comes after. Operands that have their types are worked on as they stand.
 fn convert_both(op: u8, stage: u8, x: u8, y: u8, l: Instance, r: Instance) -> Outcome
-    requires { ⌜ Small (shapeOf l) × Small (shapeOf r) ⌝ }
+    requires { ⌜ (goodOf l ≡ true) × (goodOf r ≡ true) × (targetsOf op (l .ty) (r .ty) ≡ Targets.Types x y) ⌝ }
     ensures { λ o. ⌜ o ≡ convertedTo x y op stage l r ⌝ }
 {
     let a = Shape {
@@ -116,6 +118,9 @@ fn convert_both(op: u8, stage: u8, x: u8, y: u8, l: Instance, r: Instance) -> Ou
         cols: r.cols,
         rows: r.rows,
     };
+    if (l.ty == x) & (r.ty == y) {
+        return work(op, stage, x, a, &l.comps, b, &r.comps);
+    }
     let left = converted(l.ty, x, &l.comps, count(a));
     let first = left.refusal;
     if left.stopped {
@@ -131,7 +136,7 @@ fn convert_both(op: u8, stage: u8, x: u8, y: u8, l: Instance, r: Instance) -> Ou
 
 // Well-formed operands: shape pair, common type, and what comes after.
 pub(crate) fn judge(op: u8, stage: u8, l: Instance, r: Instance) -> Outcome
-    requires { ⌜ Small (shapeOf l) × Small (shapeOf r) ⌝ }
+    requires { ⌜ (goodOf l ≡ true) × (goodOf r ≡ true) ⌝ }
     ensures { λ o. ⌜ o ≡ judged op stage l r ⌝ }
 {
     if !pair_ok(

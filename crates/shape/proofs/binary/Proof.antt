@@ -4,7 +4,6 @@ use borrow.Author.Tests.{not-false}
 use borrow.Author.Needs.{needs}
 use Rattle.shape.specs.Meaning.{binaryMeaning}
 use Rattle.shape.proofs.Checks.{need-no, need-yes}
-use Rattle.shape.proofs.Places.{good-small}
 use Rattle.shape.proofs.binary.Statement.{statement}
 use Rattle.shape.proofs.binary.Tie as tie
 
@@ -49,7 +48,7 @@ unfolding binaryMeaning
 returns-4 c = need-yes _ _ (c .before .before .before .before .before .before .before .before .op-known .ensures) _ _ _ (c .before .before .before .before .before .before .before .if1 .left) (need-yes _ _ (c .before .before .before .before .before .before .stage-known .ensures) _ _ _ (c .before .before .before .before .before .if2 .left) (need-yes _ _ (c .before .before .before .before .good2 .ensures) _ _ _ (c .before .before .before .if3 .left) (need-no _ _ (c .before .before .good3 .ensures) _ _ _ (c .before .if4 .taken) (c .refused4 .ensures))))
 
 judge-requires : tie.Need-judge-requires
-judge-requires c κs = (good-small _ (sym (c .before .before .before .good2 .ensures) ∙ not-false _ (c .before .before .if3 .left)), good-small _ (sym (c .before .good3 .ensures) ∙ not-false _ (c .if4 .left)))
+judge-requires c κs = (sym (c .before .before .before .good2 .ensures) ∙ not-false _ (c .before .before .if3 .left), sym (c .before .good3 .ensures) ∙ not-false _ (c .if4 .left))
 
 returns-5 : tie.Need-returns-5
 unfolding binaryMeaning

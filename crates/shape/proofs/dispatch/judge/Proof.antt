@@ -1,4 +1,5 @@
 -- `shape::dispatch::judge` meets its contract. Assumes nothing.
+use mathlib.Core.Path.{sym, _∙_}
 use borrow.Author.Needs.{needs}
 use Rattle.shape.specs.Meaning.{judged}
 use Rattle.shape.proofs.Checks.{need-no, need-yes}
@@ -32,7 +33,7 @@ unfolding judged
 returns-2 c = need-yes _ _ (c .before .before .before .before .before .pair-ok .ensures) _ _ _ (c .before .before .before .before .if1 .left) (rw (← (c .before .before .before .targets-of .ensures), c .before .enum-told .given .1) (c .refused2 .ensures))
 
 convert-both-requires : tie.Need-convert-both-requires
-convert-both-requires c κs = search needs
+convert-both-requires c κs = (c .before .before .before .before .before .before .pre .0, c .before .before .before .before .before .before .pre .1, sym (c .before .before .before .targets-of .ensures) ∙ c .before .targets .given .1)
 
 returns-3 : tie.Need-returns-3
 unfolding judged
