@@ -8,22 +8,7 @@ use scalar::Step;
 ghost use mathlib.Core.Path.{_≡_};
 ghost use Prim.Native.Nat.{_-_, _*_, _≤_, _<_};
 ghost use Rattle.shape.specs.Components.{outOf, bitsOf, worked, lane, Inside};
-ghost use Rattle.scalar.specs.Step.{stepOf};
-ghost use Rattle.shape.specs.Products.{plusNext, plusOne, plusAll, dotOf, cellAt, timesRow, vectorMatrix};
-
-// The next product, and the sum with it.
-fn add_product(stage: u8, ty: u8, sum: Step, x: u64, y: u64) -> Step
-    ensures { λ r. ⌜ bitsOf r ≡ plusNext (plusOne stage ty) (bitsOf sum) (bitsOf (stepOf 5 stage ty x y)) ⌝ }
-{
-    let Step::Bits(_, s) = sum else {
-        return sum;
-    };
-    let product = scalar::binary_step(5, stage, ty, x, y);
-    let Step::Bits(_, p) = product else {
-        return product;
-    };
-    scalar::binary_step(3, stage, ty, s, p)
-}
+ghost use Rattle.shape.specs.Products.{plusNext, plusAll, dotOf, cellAt, timesRow, vectorMatrix};
 
 // One component's sum of products: the k-th is l's place a + k * s times r's place b + k.
 fn dot(
@@ -39,13 +24,21 @@ fn dot(
     requires { ⌜ Inside a s n × Inside b 1 n × (1 ≤ n) ⌝ }
     ensures { λ o. ⌜ bitsOf o ≡ dotOf stage ty (lane (now (l .entry)) a s) (lane (now (r .entry)) b 1) (n - 1) ⌝ }
 {
-    let mut sum = scalar::binary_step(5, stage, ty, entry(l, a, 0, s), entry(r, b, 0, 1));
+    let first = scalar::binary_step(5, stage, ty, entry(l, a, 0, s), entry(r, b, 0, 1));
+    let Step::Bits(_, p) = first else {
+        return first;
+    };
+    let mut sum = p;
     let mut k = 1;
     while k < n {
-        sum = add_product(stage, ty, sum, entry(l, a, k, s), entry(r, b, k, 1));
+        let next = scalar::add_product(stage, ty, sum, entry(l, a, k, s), entry(r, b, k, 1));
+        let Step::Bits(_, t) = next else {
+            return next;
+        };
+        sum = t;
         k += 1;
     }
-    sum
+    Step::Bits(ty, sum)
 }
 
 // A matrix with `rows` rows times one with `inner` rows, n components, one finished after the other. A vector on the right is one column.

@@ -1,19 +1,19 @@
 -- `shape::products::dot` meets its contract. Assumes nothing.
-use mathlib.Core.Path.{_≡_, ap}
+use mathlib.Core.Path.{_≡_, sym, ap, _∙_}
 use Prim.Native.Nat.{_-_, _≤_}
 use native.Mathlib.Omega.{arith}
 use borrow.Author.Needs.{needs}
-use Rattle.shape.specs.Components.{bitsOf, lane}
-use Rattle.shape.specs.Products.{sumTo, dotOf}
-use Rattle.shape.proofs.Sums.{sum-more}
+use Rattle.shape.specs.Components.{got, bitsOf, lane}
+use Rattle.shape.specs.Products.{dotOf}
+use Rattle.shape.proofs.Sums.{sum-stop, dot-first, dot-more}
 use Rattle.shape.proofs.products.dot.Statement.{statement}
 use Rattle.shape.proofs.products.dot.Tie as tie
 
 abbrev Inv-loop : tie.InvT-loop
-Inv-loop stage ty l a s r b n sum₀ k₀ sum k = (1 ≤ k) × (k ≤ n) × (bitsOf sum ≡ dotOf stage ty (lane l a s) (lane r b 1) (k - 1))
+Inv-loop stage ty l a s r b n p sum₀ k₀ sum k = (1 ≤ k) × (k ≤ n) × (got sum ≡ dotOf stage ty (lane l a s) (lane r b 1) (k - 1))
 
 abbrev μ-loop : tie.MeasureT-loop
-μ-loop stage ty l a s r b n sum₀ k₀ sum k = n - k
+μ-loop stage ty l a s r b n p sum₀ k₀ sum k = n - k
 
 entry-requires : tie.Need-entry-requires Inv-loop μ-loop
 entry-requires c κs = c .pre .0 0 (omega arith)
@@ -24,18 +24,45 @@ entry-requires-2 c κs = c .before .pre .1 0 (omega arith)
 binary-step-requires : tie.Need-binary-step-requires Inv-loop μ-loop
 binary-step-requires c κs = search needs
 
+enum-known-first : tie.Need-enum-known-first Inv-loop μ-loop
+enum-known-first c = search needs
+
+enum-told : tie.Need-enum-told Inv-loop μ-loop
+enum-told c = search needs
+
+returns : tie.Need-returns Inv-loop μ-loop
+returns c =
+    let d = c .before .before in
+    let e = dot-first _ _ _ _ _ _ _ (d .before .before .entry .ensures) (d .before .entry2 .ensures) (d .binary-step .ensures) in
+    sum-stop _ _ 0 _ _ _ (omega arith) (ap bitsOf (c .enum-told .given .1)) e
+
 loop-holds : tie.Need-loop-holds Inv-loop μ-loop
-unfolding sumTo
-loop-holds c = (omega arith, omega arith, rw (← (c .before .before .entry .ensures), ← (c .before .entry2 .ensures)) (ap bitsOf (c .binary-step .ensures)))
+loop-holds c =
+    let d = c .before .before .before in
+    let q = sym (ap bitsOf (c .before .first .given .1)) in
+    (omega arith, omega arith, q ∙ dot-first _ _ _ _ _ _ _ (d .before .before .entry .ensures) (d .before .entry2 .ensures) (d .binary-step .ensures))
 
 entry-requires-3 : tie.Need-entry-requires-3 Inv-loop μ-loop
-entry-requires-3 c κs = omega (arith, c .before .before .before .before .before .pre .0 (c .before .loop .k) (c .loop-test .taken))
+entry-requires-3 c κs = omega (arith, c .before .before .before .before .before .before .before .before .pre .0 (c .before .loop .k) (c .loop-test .taken))
 
 entry-requires-4 : tie.Need-entry-requires-4 Inv-loop μ-loop
-entry-requires-4 c κs = omega (arith, c .before .before .before .before .before .before .pre .1 (c .before .before .loop .k) (c .before .loop-test .taken))
+entry-requires-4 c κs = omega (arith, c .before .before .before .before .before .before .before .before .before .pre .1 (c .before .before .loop .k) (c .before .loop-test .taken))
 
 add-product-requires : tie.Need-add-product-requires Inv-loop μ-loop
 add-product-requires c κs = search needs
+
+enum-known-next : tie.Need-enum-known-next Inv-loop μ-loop
+enum-known-next c = search needs
+
+enum-told-2 : tie.Need-enum-told-2 Inv-loop μ-loop
+enum-told-2 c = search needs
+
+returns-2 : tie.Need-returns-2 Inv-loop μ-loop
+returns-2 c =
+    let d = c .before .before in
+    let v = d .before .before .before .before .loop .inv in
+    let e = dot-more _ _ _ _ _ _ _ _ _ (v .0) (v .2) (d .before .before .entry3 .ensures) (d .before .entry4 .ensures) (d .add-product .ensures) in
+    sum-stop _ _ _ _ _ _ (omega arith) (ap bitsOf (c .enum-told2 .given .1)) e
 
 add-k : tie.Need-add-k Inv-loop μ-loop
 add-k c = search needs
@@ -45,12 +72,14 @@ loop-less c = search needs
 
 loop-again : tie.Need-loop-again Inv-loop μ-loop
 loop-again c =
-    let v = c .before .before .before .before .loop .inv in
-    (omega arith, omega arith, sum-more _ _ _ _ _ (v .0) (v .2) (rw (c .before .before .entry3 .ensures, c .before .entry4 .ensures) at (c .add-product .ensures)))
+    let d = c .before .before .before in
+    let v = d .before .before .before .before .loop .inv in
+    let e = dot-more _ _ _ _ _ _ _ _ _ (v .0) (v .2) (d .before .before .entry3 .ensures) (d .before .entry4 .ensures) (d .add-product .ensures) in
+    (omega arith, omega arith, sym (ap bitsOf (c .before .next .given .1)) ∙ e)
 
-returns : tie.Need-returns Inv-loop μ-loop
-returns c =
-    let e : c .before .loop .k ≡ c .before .before .before .before .before .args .n = omega arith in
+returns-3 : tie.Need-returns-3 Inv-loop μ-loop
+returns-3 c =
+    let e : c .before .loop .k ≡ c .before .before .before .before .before .before .before .before .args .n = omega arith in
     rw (← e) (c .before .loop .inv .2)
 
 pub dot-spec : {M : Type 1} → statement M
@@ -62,11 +91,17 @@ dot-spec =
     entry-requires
     entry-requires-2
     binary-step-requires
+    enum-known-first
+    enum-told
+    returns
     loop-holds
     entry-requires-3
     entry-requires-4
     add-product-requires
+    enum-known-next
+    enum-told-2
+    returns-2
     add-k
     loop-less
     loop-again
-    returns)
+    returns-3)
