@@ -9,6 +9,7 @@ pub mod Negated
 pub mod Counted
 pub mod Called
 pub mod Steps
+pub mod Added
 pub mod Sound
 pub mod Keeps
 pub mod Promises

@@ -59,6 +59,8 @@ use Rattle.scalar.proofs.unary_right.Kinds as unary-right-kinds
 use Rattle.scalar.proofs.unary_right.Reads as unary-right-reads
 use Rattle.scalar.proofs.binary_step.Kinds as binary-step-kinds
 use Rattle.scalar.proofs.binary_step.Reads as binary-step-reads
+use Rattle.scalar.proofs.add_product.Kinds as add-product-kinds
+use Rattle.scalar.proofs.add_product.Reads as add-product-reads
 use Rattle.scalar.proofs.unary_step.Kinds as unary-step-kinds
 use Rattle.scalar.proofs.unary_step.Reads as unary-step-reads
 use Rattle.scalar.proofs.convert_step.Kinds as convert-step-kinds
@@ -203,6 +205,9 @@ unary-right-one κs a x y s t p q = p ∙ sym q
 
 pub binary-step-one : OneResult 0 binary-step-kinds.ps binary-step-kinds.r binary-step-reads.Post
 binary-step-one κs a x y s t p q = p ∙ sym q
+
+pub add-product-one : OneResult 0 add-product-kinds.ps add-product-kinds.r add-product-reads.Post
+add-product-one κs a x y s t p q = p ∙ sym q
 
 pub unary-step-one : OneResult 0 unary-step-kinds.ps unary-step-kinds.r unary-step-reads.Post
 unary-step-one κs a x y s t p q = p ∙ sym q

@@ -125,7 +125,7 @@ kept-proper (suc (suc (suc (suc (suc (suc (suc ty))))))) b h = h
 pub bits-fit : (w : Width) (x : ℤ) → SFits w x → Fits w (ofZ w x)
 bits-fit w x f = subst (Fits w) (sym (bits-wrap w x f)) (wrapU-fits w x)
 
-narrow : (b : ℕ) → b < 4294967296 → (ltb b 4294967296 || false) ≡ true
+pub narrow : (b : ℕ) → b < 4294967296 → (ltb b 4294967296 || false) ≡ true
 narrow b h = ap (λ (t : Bool). t || false) (lt-ltb b 4294967296 h)
 
 kept-half : (b : ℕ) → Fits w16 b → Fits w16 (keptOf 6 b)

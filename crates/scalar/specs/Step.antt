@@ -70,6 +70,15 @@ stepOf op stage ty l r =
     (stepped (shiftOf op (stageOf stage) (scalarOf ty l) (scalarOf 4 r)))
     (stepped (binaryOf op (stageOf stage) (bothOf (scalarOf ty l) (scalarOf ty r))))
 
+-- a step's bits go on; its refusal stands
+abbrev pub onBits : Step → (ℕ → Step) → Step
+onBits (S.Bits t b) k = k b
+onBits (S.Refused r) k = S.Refused r
+
+-- the product of two patterns, and the sum with it; the product's refusal comes first
+unfoldable pub productAdded : ℕ → ℕ → ℕ → ℕ → ℕ → Step
+productAdded stage ty s l r = onBits (stepOf 5 stage ty l r) (stepOf 3 stage ty s)
+
 -- a pattern of one type as one of another
 abbrev pub converted : Found → Conv
 converted (F.Value s) = C.Bits (bitsOf s)

@@ -7,6 +7,7 @@ mod comparison;
 pub mod convert;
 mod logical;
 pub mod pattern;
+mod products;
 mod shifts;
 mod unary;
 
@@ -14,7 +15,7 @@ ghost use mathlib.Core.Path.{_≡_};
 ghost use Rattle.scalar.specs.Answer.{answerOf, refusal, strict};
 ghost use Rattle.scalar.specs.Convert.{finiteOf};
 ghost use Rattle.scalar.specs.Pattern.{keptOf, properOf};
-ghost use Rattle.scalar.specs.Step.{binaryOf, convOf, converted, rightOf, shiftOf, stageOf, stepOf, stepped, unaryOf, unaryRightOf, unaryStepOf};
+ghost use Rattle.scalar.specs.Step.{binaryOf, convOf, converted, productAdded, rightOf, shiftOf, stageOf, stepOf, stepped, unaryOf, unaryRightOf, unaryStepOf};
 
 // A value with its type; an F16 is its bits.
 pub enum Scalar {
@@ -266,6 +267,22 @@ pub fn binary_step(op: u8, stage: u8, ty: u8, l: u64, r: u64) -> Step
         return step_of(shift_op(op, at, x, pattern::scalar_of(4, r)));
     }
     step_of(binary_op(op, at, common::both(x, pattern::scalar_of(ty, r))))
+}
+
+// The product of two patterns of one type, and the sum with it.
+pub fn add_product(stage: u8, ty: u8, sum: u64, l: u64, r: u64) -> Step
+    ensures { λ a. ⌜ a ≡ productAdded stage ty sum l r ⌝ }
+{
+    if ty == 2 {
+        return products::f64_product(stage, sum, l, r);
+    }
+    if (ty == 5) & (sum < 0x1_0000_0000) & (l < 0x1_0000_0000) & (r < 0x1_0000_0000) {
+        return products::f32_product(stage, sum as u32, l as u32, r as u32);
+    }
+    if (ty == 6) & (sum < 0x1_0000) & (l < 0x1_0000) & (r < 0x1_0000) {
+        return products::half_product(stage, sum as u16, l as u16, r as u16);
+    }
+    products::any_product(stage, ty, sum, l, r)
 }
 
 // A unary operator on a pattern.

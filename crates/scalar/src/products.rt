@@ -1,0 +1,76 @@
+// The sum with a product, which a matrix product does at each of its steps.
+use crate::Step;
+use crate::binary_step;
+use crate::refuse;
+use rounding::f32_bits;
+use rounding::f32_of_bits;
+use rounding::f32_to_half;
+use rounding::f64_bits;
+use rounding::f64_of_bits;
+use rounding::finite_f32;
+use rounding::finite_f64;
+use rounding::finite_half;
+use rounding::half_to_f32;
+ghost use mathlib.Core.Bool.{_&&_, not};
+ghost use mathlib.Core.Path.{_≡_};
+ghost use Rattle.scalar.specs.Answer.{refusal};
+ghost use Rattle.scalar.specs.Pattern.{pick};
+ghost use Rattle.scalar.specs.Step.{productAdded};
+
+// In any type: one step, and another with its bits.
+pub(crate) fn any_product(stage: u8, ty: u8, sum: u64, l: u64, r: u64) -> Step
+    ensures { λ a. ⌜ a ≡ productAdded stage ty sum l r ⌝ }
+{
+    let product = binary_step(5, stage, ty, l, r);
+    let Step::Bits(_, p) = product else {
+        return product;
+    };
+    binary_step(3, stage, ty, sum, p)
+}
+
+// The sum's bits, or where finite results are asked for the refusal of the product, and then that of the sum.
+fn outcome(asked: bool, product: bool, sum: bool, ty: u8, bits: u64) -> Step
+    ensures { λ a. ⌜ a ≡ pick (asked && not product) (Step.Refused (refusal 6 0)) (pick (asked && not sum) (Step.Refused (refusal 4 0)) (Step.Bits ty bits)) ⌝ }
+{
+    if asked & !product {
+        return refuse(6, 0);
+    }
+    if asked & !sum {
+        return refuse(4, 0);
+    }
+    Step::Bits(ty, bits)
+}
+
+// In F32; the stages that ask for finite results are those below Exec.
+pub(crate) fn f32_product(stage: u8, sum: u32, l: u32, r: u32) -> Step
+    ensures { λ a. ⌜ a ≡ productAdded stage 5 sum l r ⌝ }
+{
+    let x = f32_of_bits(l);
+    let p = x * f32_of_bits(r);
+    let t = f32_of_bits(sum) + p;
+    outcome(
+        stage < 2,
+        finite_f32(p),
+        finite_f32(t),
+        5,
+        f32_bits(t) as u64,
+    )
+}
+
+// In F64, which is finite in every stage.
+pub(crate) fn f64_product(stage: u8, sum: u64, l: u64, r: u64) -> Step
+    ensures { λ a. ⌜ a ≡ productAdded stage 2 sum l r ⌝ }
+{
+    let p = f64_of_bits(l) * f64_of_bits(r);
+    let t = f64_of_bits(sum) + p;
+    outcome(true, finite_f64(p), finite_f64(t), 2, f64_bits(t))
+}
+
+// In F16: each of the two in F32, and rounded; asked for as in F32.
+pub(crate) fn half_product(stage: u8, sum: u16, l: u16, r: u16) -> Step
+    ensures { λ a. ⌜ a ≡ productAdded stage 6 sum l r ⌝ }
+{
+    let p = f32_to_half(half_to_f32(l) * half_to_f32(r));
+    let t = f32_to_half(half_to_f32(sum) + half_to_f32(p));
+    outcome(stage < 2, finite_half(p), finite_half(t), 6, t as u64)
+}
