@@ -52,7 +52,7 @@ module _ (stage ty sum l r : ℕ) {a : Step} (e : a ≡ stepOf 5 stage ty l r) w
   with-product h k = k ∙ ap (λ (a : Step). onBits a (stepOf 3 stage ty sum)) (sym h ∙ e)
 
 -- ---- by a kernel
--- the sum's bits, or where finite results are asked for (s) the refusal of a product that is not (f), and then of a sum that is not (g)
+-- the sum's bits; or, where finite results are asked for (s), the refusal of a product that is not finite (f), and then that of a sum (g)
 abbrev pub outcomeOf : Bool → Bool → Bool → ℕ → ℕ → Step
 outcomeOf s f g ty b = pick (s && not f) (S.Refused (refusal 6 0)) (pick (s && not g) (S.Refused (refusal 4 0)) (S.Bits ty b))
 

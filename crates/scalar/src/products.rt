@@ -28,7 +28,7 @@ pub(crate) fn any_product(stage: u8, ty: u8, sum: u64, l: u64, r: u64) -> Step
     binary_step(3, stage, ty, sum, p)
 }
 
-// The sum's bits, or where finite results are asked for the refusal of the product, and then that of the sum.
+// The sum's bits; or, where finite results are asked for, the refusal of a product that is not finite, and then that of a sum.
 fn outcome(asked: bool, product: bool, sum: bool, ty: u8, bits: u64) -> Step
     ensures { λ a. ⌜ a ≡ pick (asked && not product) (Step.Refused (refusal 6 0)) (pick (asked && not sum) (Step.Refused (refusal 4 0)) (Step.Bits ty bits)) ⌝ }
 {
@@ -41,7 +41,7 @@ fn outcome(asked: bool, product: bool, sum: bool, ty: u8, bits: u64) -> Step
     Step::Bits(ty, bits)
 }
 
-// In F32; the stages that ask for finite results are those below Exec.
+// In F32: Const and Override, the codes below 2, ask for finite results.
 pub(crate) fn f32_product(stage: u8, sum: u32, l: u32, r: u32) -> Step
     ensures { λ a. ⌜ a ≡ productAdded stage 5 sum l r ⌝ }
 {
@@ -57,7 +57,7 @@ pub(crate) fn f32_product(stage: u8, sum: u32, l: u32, r: u32) -> Step
     )
 }
 
-// In F64, which is finite in every stage.
+// In F64: every stage asks for finite results.
 pub(crate) fn f64_product(stage: u8, sum: u64, l: u64, r: u64) -> Step
     ensures { λ a. ⌜ a ≡ productAdded stage 2 sum l r ⌝ }
 {
@@ -66,7 +66,7 @@ pub(crate) fn f64_product(stage: u8, sum: u64, l: u64, r: u64) -> Step
     outcome(true, finite_f64(p), finite_f64(t), 2, f64_bits(t))
 }
 
-// In F16: each of the two in F32, and rounded; asked for as in F32.
+// In F16: each of the two worked in F32 and rounded; finite results are asked for as in F32.
 pub(crate) fn half_product(stage: u8, sum: u16, l: u16, r: u16) -> Step
     ensures { λ a. ⌜ a ≡ productAdded stage 6 sum l r ⌝ }
 {
