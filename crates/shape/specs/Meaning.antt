@@ -1,13 +1,13 @@
 -- What an operator gives on operands of any shape, in the order of the checks. Assumes nothing.
 use Prim.Native.Nat.{ℕ, _-_, _*_}
 use mathlib.Core.Bool.{Bool, true, false, not}
-use mathlib.Core.List.{List}
+use mathlib.Core.List.{List, _∷_}
 use lib.Dec.{eqb}
 use lib.ListN.{replicate}
 use Rattle.scalar.specs.Pattern.{pick}
-use Rattle.scalar.specs.Step.{rightOf, unaryRightOf}
+use Rattle.scalar.specs.Step.{stepOf, convOf, rightOf, unaryRightOf}
 use Rattle.shape.specs.Operand.{shapeOf, isMatrix, countOf, goodOf}
-use Rattle.shape.specs.Components.{Out, got, stop, worked, lane, strideOf, pairAt, unaryAt, convAt}
+use Rattle.shape.specs.Components.{Out, got, stop, worked, bitsOf, convBits, lane, strideOf, pairAt, unaryAt, convAt}
 use Rattle.shape.specs.Products.{cellAt, vectorMatrix}
 use Rattle.shape.specs.Pairing.{opKnown, unaryKnown, stageKnown, pairOk, targetsOf, isProduct, fitsOf, misfitOf, resultType, larger}
 use Rattle.shape.specs.declared.Instance.{Instance}
@@ -101,3 +101,16 @@ unaryMeaning op stage v =
     (need (stageKnown stage) 23
     (need (goodOf v) 26
     (unaryJudged op v)))
+
+-- ---- for the contracts of private functions
+-- a scalar as a value
+abbrev pub oneOf : ℕ → ℕ → Outcome
+oneOf ty b = valueOf (record { ty = ty; cols = 1; rows = 1; comps = b ∷ replicate 15 0 })
+
+-- two scalars: their conversions, left first; the type's right; one step
+unfoldable pub scalarsTo : ℕ → ℕ → ℕ → ℕ → ℕ → ℕ → ℕ → ℕ → Outcome
+scalarsTo x y op stage lt l rt r =
+    onGot (convBits (convOf lt x l)) (λ p.
+    onGot (convBits (convOf rt y r)) (λ q.
+    need (rightOf op x) 2
+    (onGot (bitsOf (stepOf op stage x p q)) (oneOf (resultType op x)))))

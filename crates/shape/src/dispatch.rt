@@ -21,12 +21,14 @@ use crate::Instance;
 use crate::Outcome;
 use crate::answered;
 use crate::refused;
+use scalar::Conv;
+use scalar::Step;
 ghost use mathlib.Core.Path.{_≡_};
 ghost use mathlib.Core.Bool.{true};
 ghost use Rattle.shape.specs.Operand.{shapeOf, Small, goodOf};
 ghost use Rattle.shape.specs.Components.{outOf, strideOf};
 ghost use Rattle.shape.specs.Pairing.{targetsOf};
-ghost use Rattle.shape.specs.Meaning.{answer, compwise, multiplied, typed, convertedTo, judged, unaryJudged};
+ghost use Rattle.shape.specs.Meaning.{answer, compwise, multiplied, typed, convertedTo, judged, unaryJudged, oneOf, scalarsTo};
 
 // A run as an answer of a type and shape.
 fn answer_of(run: Run, ty: u8, cols: u8, rows: u8) -> Outcome
@@ -105,7 +107,43 @@ fn work(op: u8, stage: u8, ty: u8, a: Shape, x: &[u64; 16], b: Shape, y: &[u64; 
     componentwise(op, stage, ty, a, x, b, y)
 }
 
-// Conversions of both operands, left first, and what comes after. Operands that have their types are worked on as they stand.
+// A scalar as an answer.
+fn one(ty: u8, bits: u64) -> Outcome
+    ensures { λ o. ⌜ o ≡ oneOf ty bits ⌝ }
+{
+    let mut comps = [0u64; 16];
+    comps[0] = bits;
+    answered(Instance {
+        ty,
+        cols: 1,
+        rows: 1,
+        comps,
+    })
+}
+
+// Two scalars: their conversions, left first, the type's right, and one step.
+fn scalars(op: u8, stage: u8, x: u8, y: u8, lt: u8, l: u64, rt: u8, r: u64) -> Outcome
+    ensures { λ o. ⌜ o ≡ scalarsTo x y op stage lt l rt r ⌝ }
+{
+    let left = scalar::convert_step(lt, x, l);
+    let Conv::Bits(p) = left else {
+        return refused(2, 0);
+    };
+    let right = scalar::convert_step(rt, y, r);
+    let Conv::Bits(q) = right else {
+        return refused(2, 0);
+    };
+    if !scalar::right(op, x) {
+        return refused(2, 0);
+    }
+    let step = scalar::binary_step(op, stage, x, p, q);
+    match step {
+        Step::Bits(_, bits) => one(result_type(op, x), bits),
+        Step::Refused(refusal) => refused(refusal.number, refusal.detail),
+    }
+}
+
+// Conversions of both operands, left first, and what comes after. Two scalars go without arrays; operands that have their types are worked on as they stand.
 fn convert_both(op: u8, stage: u8, x: u8, y: u8, l: Instance, r: Instance) -> Outcome
     requires { ⌜ (goodOf l ≡ true) × (goodOf r ≡ true) × (targetsOf op (l .ty) (r .ty) ≡ Targets.Types x y) ⌝ }
     ensures { λ o. ⌜ o ≡ convertedTo x y op stage l r ⌝ }
@@ -118,6 +156,9 @@ fn convert_both(op: u8, stage: u8, x: u8, y: u8, l: Instance, r: Instance) -> Ou
         cols: r.cols,
         rows: r.rows,
     };
+    if is_scalar(a) & is_scalar(b) {
+        return scalars(op, stage, x, y, l.ty, l.comps[0], r.ty, r.comps[0]);
+    }
     if (l.ty == x) & (r.ty == y) {
         return work(op, stage, x, a, &l.comps, b, &r.comps);
     }
