@@ -131,7 +131,7 @@ fn run(fd: i32) -> Tally {
 }
 
 // The list that argument i names.
-pub fn list(i: usize) {
+pub(crate) fn list(i: usize) {
     let fd = cases::open(i);
     if fd < 0 {
         return;

@@ -1,6 +1,7 @@
 // An operator on operands of any shape: shape pair, common type, conversions, equal shape, the type's right, components.
 use super::components::Run;
 use super::components::converted;
+use super::components::ended;
 use super::components::steps;
 use super::components::unary_steps;
 use super::operand::Shape;
@@ -137,10 +138,10 @@ fn scalars(op: u8, stage: u8, x: u8, y: u8, lt: u8, l: u64, rt: u8, r: u64) -> O
         return refused(2, 0);
     }
     let step = scalar::binary_step(op, stage, x, p, q);
-    match step {
-        Step::Bits(_, bits) => one(result_type(op, x), bits),
-        Step::Refused(refusal) => refused(refusal.number, refusal.detail),
-    }
+    let Step::Bits(_, bits) = step else {
+        return answer_of(ended(step), x, 1, 1);
+    };
+    one(result_type(op, x), bits)
 }
 
 // Conversions of both operands, left first, and what comes after. Two scalars go without arrays; operands that have their types are worked on as they stand.

@@ -54,25 +54,28 @@ binary-step-requires c κs = search needs
 enum-known-step : tie.Need-enum-known-step
 enum-known-step c = search needs
 
+enum-told-3 : tie.Need-enum-told-3
+enum-told-3 c = search needs
+
+ended-requires : tie.Need-ended-requires
+ended-requires c κs = search needs
+
+answer-of-requires : tie.Need-answer-of-requires
+answer-of-requires c κs = search needs
+
+returns-4 : tie.Need-returns-4
+unfolding scalarsTo
+returns-4 c = conv-bits _ _ (c .before .before .before .before .before .before .before .before .before .before .before .before .before .before .convert-step .ensures) _ _ _ (c .before .before .before .before .before .before .before .before .before .before .before .before .left .given .1) (conv-bits _ _ (c .before .before .before .before .before .before .before .before .before .before .convert-step2 .ensures) _ _ _ (c .before .before .before .before .before .before .before .before .right .given .1) (need-yes _ _ (c .before .before .before .before .before .before .right2 .ensures) _ _ _ (c .before .before .before .before .before .if1 .left) (step-refused _ _ (c .before .before .before .before .binary-step .ensures) _ _ _ (c .before .before .enum-told3 .given .1) (rw (c .before .ended .ensures, c .before .before .enum-told3 .given .1) at (c .answer-of .ensures)))))
+
 result-type-requires : tie.Need-result-type-requires
 result-type-requires c κs = search needs
 
 one-requires : tie.Need-one-requires
 one-requires c κs = search needs
 
-enum-known-step-2 : tie.Need-enum-known-step-2
-enum-known-step-2 c = search needs
-
-refused-requires-4 : tie.Need-refused-requires-4
-refused-requires-4 c κs = search needs
-
-returns-4 : tie.Need-returns-4
-unfolding scalarsTo
-returns-4 c = conv-bits _ _ (c .before .before .before .before .before .before .before .before .before .before .before .before .before .before .before .convert-step .ensures) _ _ _ (c .before .before .before .before .before .before .before .before .before .before .before .before .before .left .given .1) (conv-bits _ _ (c .before .before .before .before .before .before .before .before .before .before .before .convert-step2 .ensures) _ _ _ (c .before .before .before .before .before .before .before .before .before .right .given .1) (need-yes _ _ (c .before .before .before .before .before .before .before .right2 .ensures) _ _ _ (c .before .before .before .before .before .before .if1 .left) (step-bits _ _ (c .before .before .before .before .before .binary-step .ensures) _ _ _ _ (c .before .before .before .step .given .1) (one-same _ _ _ _ (c .one .ensures) (c .before .result-type .ensures)))))
-
 returns-5 : tie.Need-returns-5
 unfolding scalarsTo
-returns-5 c = conv-bits _ _ (c .before .before .before .before .before .before .before .before .before .before .before .before .before .before .convert-step .ensures) _ _ _ (c .before .before .before .before .before .before .before .before .before .before .before .before .left .given .1) (conv-bits _ _ (c .before .before .before .before .before .before .before .before .before .before .convert-step2 .ensures) _ _ _ (c .before .before .before .before .before .before .before .before .right .given .1) (need-yes _ _ (c .before .before .before .before .before .before .right2 .ensures) _ _ _ (c .before .before .before .before .before .if1 .left) (step-refused _ _ (c .before .before .before .before .binary-step .ensures) _ _ _ (c .before .before .step2 .given .1) (c .refused4 .ensures))))
+returns-5 c = conv-bits _ _ (c .before .before .before .before .before .before .before .before .before .before .before .before .before .before .before .convert-step .ensures) _ _ _ (c .before .before .before .before .before .before .before .before .before .before .before .before .before .left .given .1) (conv-bits _ _ (c .before .before .before .before .before .before .before .before .before .before .before .convert-step2 .ensures) _ _ _ (c .before .before .before .before .before .before .before .before .before .right .given .1) (need-yes _ _ (c .before .before .before .before .before .before .before .right2 .ensures) _ _ _ (c .before .before .before .before .before .before .if1 .left) (step-bits _ _ (c .before .before .before .before .before .binary-step .ensures) _ _ _ _ (c .before .before .before .step .given .1) (one-same _ _ _ _ (c .one .ensures) (c .before .result-type .ensures)))))
 
 pub scalars-spec : {M : Type 1} → statement M
 scalars-spec =
@@ -93,9 +96,10 @@ scalars-spec =
     returns-3
     binary-step-requires
     enum-known-step
+    enum-told-3
+    ended-requires
+    answer-of-requires
+    returns-4
     result-type-requires
     one-requires
-    enum-known-step-2
-    refused-requires-4
-    returns-4
     returns-5)
