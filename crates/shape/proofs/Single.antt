@@ -15,6 +15,8 @@ use Rattle.shape.proofs.unary.Kinds as unary-kinds
 use Rattle.shape.proofs.unary.Reads as unary-reads
 use Rattle.shape.proofs.binary.Kinds as binary-kinds
 use Rattle.shape.proofs.binary.Reads as binary-reads
+use Rattle.shape.proofs.binary_scalars.Kinds as binary-scalars-kinds
+use Rattle.shape.proofs.binary_scalars.Reads as binary-scalars-reads
 use Rattle.shape.proofs.Instance.op_not.Kinds as op-not-kinds
 use Rattle.shape.proofs.Instance.op_not.Reads as op-not-reads
 use Rattle.shape.proofs.Instance.op_neg.Kinds as op-neg-kinds
@@ -76,6 +78,9 @@ unary-one κs a x y s t p q = p ∙ sym q
 
 pub binary-one : OneResult 0 binary-kinds.ps binary-kinds.r binary-reads.Post
 binary-one κs a x y s t p q = p ∙ sym q
+
+pub binary-scalars-one : OneResult 0 binary-scalars-kinds.ps binary-scalars-kinds.r binary-scalars-reads.Post
+binary-scalars-one κs a x y s t p q = p ∙ sym q
 
 pub op-not-one : OneResult 0 op-not-kinds.ps op-not-kinds.r op-not-reads.Post
 op-not-one κs a x y s t p q = p ∙ sym q

@@ -4,10 +4,12 @@ use mathlib.Core.Bool.{Bool, true, false, not}
 use mathlib.Core.List.{List, _∷_}
 use lib.Dec.{eqb}
 use lib.ListN.{replicate}
+use Rattle.scalar.specs.declared.Step.{Step}
+use Rattle.scalar.specs.declared.Step.the-variants as S
 use Rattle.scalar.specs.Pattern.{pick}
-use Rattle.scalar.specs.Step.{stepOf, convOf, rightOf, unaryRightOf}
+use Rattle.scalar.specs.Step.{rightOf, unaryRightOf}
 use Rattle.shape.specs.Operand.{shapeOf, isMatrix, countOf, goodOf}
-use Rattle.shape.specs.Components.{Out, got, stop, worked, bitsOf, convBits, lane, strideOf, pairAt, unaryAt, convAt}
+use Rattle.shape.specs.Components.{Out, got, stop, worked, lane, strideOf, pairAt, unaryAt, convAt}
 use Rattle.shape.specs.Products.{cellAt, vectorMatrix}
 use Rattle.shape.specs.Pairing.{opKnown, unaryKnown, stageKnown, pairOk, targetsOf, isProduct, fitsOf, misfitOf, resultType, larger}
 use Rattle.shape.specs.declared.Instance.{Instance}
@@ -102,15 +104,20 @@ unaryMeaning op stage v =
     (need (goodOf v) 26
     (unaryJudged op v)))
 
+-- a scalar as an operand; its unused components are 0
+abbrev pub aScalar : ℕ → ℕ → Instance
+aScalar ty b = record { ty = ty; cols = 1; rows = 1; comps = b ∷ replicate 15 0 }
+
 -- ---- for the contracts of private functions
 -- a scalar as a value
 abbrev pub oneOf : ℕ → ℕ → Outcome
-oneOf ty b = valueOf (record { ty = ty; cols = 1; rows = 1; comps = b ∷ replicate 15 0 })
+oneOf ty b = valueOf (aScalar ty b)
 
--- two scalars: their conversions, left first; the type's right; one step
-unfoldable pub scalarsTo : ℕ → ℕ → ℕ → ℕ → ℕ → ℕ → ℕ → ℕ → Outcome
-scalarsTo x y op stage lt l rt r =
-    onGot (convBits (convOf lt x l)) (λ p.
-    onGot (convBits (convOf rt y r)) (λ q.
-    need (rightOf op x) 2
-    (onGot (bitsOf (stepOf op stage x p q)) (oneOf (resultType op x)))))
+-- one step as an answer
+abbrev pub stepAnswer : Step → Outcome
+stepAnswer (S.Bits t b) = oneOf t b
+stepAnswer (S.Refused r) = refusedWith (r .number) (r .detail)
+
+-- two converted scalars
+abbrev pub scalarsTyped : ℕ → ℕ → ℕ → ℕ → ℕ → Outcome
+scalarsTyped op stage ty p q = typed op stage ty (shapeOf (aScalar ty p)) (aScalar ty p .comps) (shapeOf (aScalar ty q)) (aScalar ty q .comps)

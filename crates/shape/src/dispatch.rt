@@ -1,7 +1,6 @@
 // An operator on operands of any shape: shape pair, common type, conversions, equal shape, the type's right, components.
 use super::components::Run;
 use super::components::converted;
-use super::components::ended;
 use super::components::steps;
 use super::components::unary_steps;
 use super::operand::Shape;
@@ -22,14 +21,12 @@ use crate::Instance;
 use crate::Outcome;
 use crate::answered;
 use crate::refused;
-use scalar::Conv;
-use scalar::Step;
 ghost use mathlib.Core.Path.{_≡_};
 ghost use mathlib.Core.Bool.{true};
 ghost use Rattle.shape.specs.Operand.{shapeOf, Small, goodOf};
 ghost use Rattle.shape.specs.Components.{outOf, strideOf};
 ghost use Rattle.shape.specs.Pairing.{targetsOf};
-ghost use Rattle.shape.specs.Meaning.{answer, compwise, multiplied, typed, convertedTo, judged, unaryJudged, oneOf, scalarsTo};
+ghost use Rattle.shape.specs.Meaning.{answer, compwise, multiplied, typed, convertedTo, judged, unaryJudged};
 
 // A run as an answer of a type and shape.
 fn answer_of(run: Run, ty: u8, cols: u8, rows: u8) -> Outcome
@@ -108,43 +105,7 @@ fn work(op: u8, stage: u8, ty: u8, a: Shape, x: &[u64; 16], b: Shape, y: &[u64; 
     componentwise(op, stage, ty, a, x, b, y)
 }
 
-// A scalar as an answer.
-fn one(ty: u8, bits: u64) -> Outcome
-    ensures { λ o. ⌜ o ≡ oneOf ty bits ⌝ }
-{
-    let mut comps = [0u64; 16];
-    comps[0] = bits;
-    answered(Instance {
-        ty,
-        cols: 1,
-        rows: 1,
-        comps,
-    })
-}
-
-// Two scalars: their conversions, left first, the type's right, and one step.
-fn scalars(op: u8, stage: u8, x: u8, y: u8, lt: u8, l: u64, rt: u8, r: u64) -> Outcome
-    ensures { λ o. ⌜ o ≡ scalarsTo x y op stage lt l rt r ⌝ }
-{
-    let left = scalar::convert_step(lt, x, l);
-    let Conv::Bits(p) = left else {
-        return refused(2, 0);
-    };
-    let right = scalar::convert_step(rt, y, r);
-    let Conv::Bits(q) = right else {
-        return refused(2, 0);
-    };
-    if !scalar::right(op, x) {
-        return refused(2, 0);
-    }
-    let step = scalar::binary_step(op, stage, x, p, q);
-    let Step::Bits(_, bits) = step else {
-        return answer_of(ended(step), x, 1, 1);
-    };
-    one(result_type(op, x), bits)
-}
-
-// Conversions of both operands, left first, and what comes after. Two scalars go without arrays; operands that have their types are worked on as they stand.
+// Conversions of both operands, left first, and what comes after. Operands that have their types are worked on as they stand.
 fn convert_both(op: u8, stage: u8, x: u8, y: u8, l: Instance, r: Instance) -> Outcome
     requires { ⌜ (goodOf l ≡ true) × (goodOf r ≡ true) × (targetsOf op (l .ty) (r .ty) ≡ Targets.Types x y) ⌝ }
     ensures { λ o. ⌜ o ≡ convertedTo x y op stage l r ⌝ }
@@ -157,9 +118,6 @@ fn convert_both(op: u8, stage: u8, x: u8, y: u8, l: Instance, r: Instance) -> Ou
         cols: r.cols,
         rows: r.rows,
     };
-    if is_scalar(a) & is_scalar(b) {
-        return scalars(op, stage, x, y, l.ty, l.comps[0], r.ty, r.comps[0]);
-    }
     if (l.ty == x) & (r.ty == y) {
         return work(op, stage, x, a, &l.comps, b, &r.comps);
     }

@@ -5,10 +5,11 @@
 //   components.rt  work component by component
 //   products.rt    sums of products: vector and matrix, matrix and matrix
 //   dispatch.rt    an operator on operands of any shape, check after check
+//   scalars.rt     the same on two scalars, without arrays
 //   operators.rt   the operators under their own names
 ghost use mathlib.Core.Path.{_≡_};
 ghost use Rattle.shape.specs.Operand.{shapeOk};
-ghost use Rattle.shape.specs.Meaning.{refusedWith, valueOf, unaryMeaning, binaryMeaning};
+ghost use Rattle.shape.specs.Meaning.{refusedWith, valueOf, aScalar, unaryMeaning, binaryMeaning};
 
 mod components;
 mod dispatch;
@@ -16,6 +17,9 @@ mod operand;
 mod operators;
 mod pairing;
 mod products;
+mod scalars;
+
+use operand::Shape;
 
 // A scalar, vector or matrix: its components, column by column, and its type, columns and rows. The components stand first, at
 // an even place, where a copy of them is cheapest.
@@ -86,10 +90,28 @@ pub fn unary(op: u8, stage: u8, v: Instance) -> Outcome
     dispatch::unary_judge(op, v)
 }
 
+// The binary operator of a code on two scalars, by their types and patterns.
+pub fn binary_scalars(op: u8, stage: u8, lt: u8, l: u64, rt: u8, r: u64) -> Outcome
+    ensures { λ o. ⌜ o ≡ binaryMeaning op stage (aScalar lt l) (aScalar rt r) ⌝ }
+{
+    scalars::settled(scalars::step(op, stage, lt, l, rt, r))
+}
+
 // The binary operator of a code, on any operands: operator and stage are judged first, then the operands, left first.
 pub fn binary(op: u8, stage: u8, l: Instance, r: Instance) -> Outcome
     ensures { λ o. ⌜ o ≡ binaryMeaning op stage l r ⌝ }
 {
+    let a = Shape {
+        cols: l.cols,
+        rows: l.rows,
+    };
+    let b = Shape {
+        cols: r.cols,
+        rows: r.rows,
+    };
+    if operand::is_scalar(a) & operand::is_scalar(b) {
+        return binary_scalars(op, stage, l.ty, l.comps[0], r.ty, r.comps[0]);
+    }
     if !pairing::op_known(op) {
         return refused(25, 0);
     }

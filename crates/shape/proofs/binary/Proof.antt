@@ -1,11 +1,30 @@
 -- `shape::binary` meets its contract. Assumes nothing.
 use mathlib.Core.Path.{_∙_, sym}
 use borrow.Author.Tests.{not-false}
-use borrow.Author.Needs.{needs}
 use Rattle.shape.specs.Meaning.{binaryMeaning}
 use Rattle.shape.proofs.Checks.{need-no, need-yes}
+use Rattle.shape.proofs.TwoScalars.{scalars-stand}
+use borrow.Author.Needs.{needs}
 use Rattle.shape.proofs.binary.Statement.{statement}
 use Rattle.shape.proofs.binary.Tie as tie
+
+is-scalar-requires : tie.Need-is-scalar-requires
+is-scalar-requires c κs = search needs
+
+is-scalar-requires-2 : tie.Need-is-scalar-requires-2
+is-scalar-requires-2 c κs = search needs
+
+element-copy-out-binary-scalars : tie.Need-element-copy-out-binary-scalars
+element-copy-out-binary-scalars c = search needs
+
+element-copy-out-binary-scalars-2 : tie.Need-element-copy-out-binary-scalars-2
+element-copy-out-binary-scalars-2 c = search needs
+
+binary-scalars-requires : tie.Need-binary-scalars-requires
+binary-scalars-requires c κs = search needs
+
+returns : tie.Need-returns
+returns c = scalars-stand _ _ _ _ _ _ _ (c .before .before .before .before .before .is-scalar .ensures) (c .before .before .before .before .is-scalar2 .ensures) (c .before .before .before .if1 .taken) (c .binary-scalars .ensures)
 
 op-known-requires : tie.Need-op-known-requires
 op-known-requires c κs = search needs
@@ -13,9 +32,9 @@ op-known-requires c κs = search needs
 refused-requires : tie.Need-refused-requires
 refused-requires c κs = search needs
 
-returns : tie.Need-returns
+returns-2 : tie.Need-returns-2
 unfolding binaryMeaning
-returns c = need-no _ _ (c .before .before .op-known .ensures) _ _ _ (c .before .if1 .taken) (c .refused .ensures)
+returns-2 c = need-no _ _ (c .before .before .op-known .ensures) _ _ _ (c .before .if2 .taken) (c .refused .ensures)
 
 stage-known-requires : tie.Need-stage-known-requires
 stage-known-requires c κs = search needs
@@ -23,9 +42,9 @@ stage-known-requires c κs = search needs
 refused-requires-2 : tie.Need-refused-requires-2
 refused-requires-2 c κs = search needs
 
-returns-2 : tie.Need-returns-2
+returns-3 : tie.Need-returns-3
 unfolding binaryMeaning
-returns-2 c = need-yes _ _ (c .before .before .before .before .op-known .ensures) _ _ _ (c .before .before .before .if1 .left) (need-no _ _ (c .before .before .stage-known .ensures) _ _ _ (c .before .if2 .taken) (c .refused2 .ensures))
+returns-3 c = need-yes _ _ (c .before .before .before .before .op-known .ensures) _ _ _ (c .before .before .before .if2 .left) (need-no _ _ (c .before .before .stage-known .ensures) _ _ _ (c .before .if3 .taken) (c .refused2 .ensures))
 
 good-requires : tie.Need-good-requires
 good-requires c κs = search needs
@@ -33,9 +52,9 @@ good-requires c κs = search needs
 refused-requires-3 : tie.Need-refused-requires-3
 refused-requires-3 c κs = search needs
 
-returns-3 : tie.Need-returns-3
+returns-4 : tie.Need-returns-4
 unfolding binaryMeaning
-returns-3 c = need-yes _ _ (c .before .before .before .before .before .before .op-known .ensures) _ _ _ (c .before .before .before .before .before .if1 .left) (need-yes _ _ (c .before .before .before .before .stage-known .ensures) _ _ _ (c .before .before .before .if2 .left) (need-no _ _ (c .before .before .good2 .ensures) _ _ _ (c .before .if3 .taken) (c .refused3 .ensures)))
+returns-4 c = need-yes _ _ (c .before .before .before .before .before .before .op-known .ensures) _ _ _ (c .before .before .before .before .before .if2 .left) (need-yes _ _ (c .before .before .before .before .stage-known .ensures) _ _ _ (c .before .before .before .if3 .left) (need-no _ _ (c .before .before .good2 .ensures) _ _ _ (c .before .if4 .taken) (c .refused3 .ensures)))
 
 good-requires-2 : tie.Need-good-requires-2
 good-requires-2 c κs = search needs
@@ -43,32 +62,38 @@ good-requires-2 c κs = search needs
 refused-requires-4 : tie.Need-refused-requires-4
 refused-requires-4 c κs = search needs
 
-returns-4 : tie.Need-returns-4
-unfolding binaryMeaning
-returns-4 c = need-yes _ _ (c .before .before .before .before .before .before .before .before .op-known .ensures) _ _ _ (c .before .before .before .before .before .before .before .if1 .left) (need-yes _ _ (c .before .before .before .before .before .before .stage-known .ensures) _ _ _ (c .before .before .before .before .before .if2 .left) (need-yes _ _ (c .before .before .before .before .good2 .ensures) _ _ _ (c .before .before .before .if3 .left) (need-no _ _ (c .before .before .good3 .ensures) _ _ _ (c .before .if4 .taken) (c .refused4 .ensures))))
-
-judge-requires : tie.Need-judge-requires
-judge-requires c κs = (sym (c .before .before .before .good2 .ensures) ∙ not-false _ (c .before .before .if3 .left), sym (c .before .good3 .ensures) ∙ not-false _ (c .if4 .left))
-
 returns-5 : tie.Need-returns-5
 unfolding binaryMeaning
-returns-5 c = need-yes _ _ (c .before .before .before .before .before .before .before .before .op-known .ensures) _ _ _ (c .before .before .before .before .before .before .before .if1 .left) (need-yes _ _ (c .before .before .before .before .before .before .stage-known .ensures) _ _ _ (c .before .before .before .before .before .if2 .left) (need-yes _ _ (c .before .before .before .before .good2 .ensures) _ _ _ (c .before .before .before .if3 .left) (need-yes _ _ (c .before .before .good3 .ensures) _ _ _ (c .before .if4 .left) (c .judge .ensures))))
+returns-5 c = need-yes _ _ (c .before .before .before .before .before .before .before .before .op-known .ensures) _ _ _ (c .before .before .before .before .before .before .before .if2 .left) (need-yes _ _ (c .before .before .before .before .before .before .stage-known .ensures) _ _ _ (c .before .before .before .before .before .if3 .left) (need-yes _ _ (c .before .before .before .before .good2 .ensures) _ _ _ (c .before .before .before .if4 .left) (need-no _ _ (c .before .before .good3 .ensures) _ _ _ (c .before .if5 .taken) (c .refused4 .ensures))))
+
+judge-requires : tie.Need-judge-requires
+judge-requires c κs = (sym (c .before .before .before .good2 .ensures) ∙ not-false _ (c .before .before .if4 .left), sym (c .before .good3 .ensures) ∙ not-false _ (c .if5 .left))
+
+returns-6 : tie.Need-returns-6
+unfolding binaryMeaning
+returns-6 c = need-yes _ _ (c .before .before .before .before .before .before .before .before .op-known .ensures) _ _ _ (c .before .before .before .before .before .before .before .if2 .left) (need-yes _ _ (c .before .before .before .before .before .before .stage-known .ensures) _ _ _ (c .before .before .before .before .before .if3 .left) (need-yes _ _ (c .before .before .before .before .good2 .ensures) _ _ _ (c .before .before .before .if4 .left) (need-yes _ _ (c .before .before .good3 .ensures) _ _ _ (c .before .if5 .left) (c .judge .ensures))))
 
 pub binary-spec : {M : Type 1} → statement M
 binary-spec =
     tie.close
     (tie.spec
+    is-scalar-requires
+    is-scalar-requires-2
+    element-copy-out-binary-scalars
+    element-copy-out-binary-scalars-2
+    binary-scalars-requires
+    returns
     op-known-requires
     refused-requires
-    returns
+    returns-2
     stage-known-requires
     refused-requires-2
-    returns-2
+    returns-3
     good-requires
     refused-requires-3
-    returns-3
+    returns-4
     good-requires-2
     refused-requires-4
-    returns-4
+    returns-5
     judge-requires
-    returns-5)
+    returns-6)

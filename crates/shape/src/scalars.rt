@@ -1,0 +1,114 @@
+// A binary operator on two scalars, which go by their types and patterns and without arrays: the checks of `binary` in their order.
+use super::pairing::Targets;
+use super::pairing::op_known;
+use super::pairing::result_type;
+use super::pairing::stage_known;
+use super::pairing::targets_of;
+use crate::Instance;
+use crate::Outcome;
+use crate::answered;
+use crate::refused;
+use scalar::Conv;
+use scalar::Refusal;
+use scalar::Step;
+ghost use mathlib.Core.Path.{_≡_};
+ghost use mathlib.Core.Bool.{true};
+ghost use Rattle.scalar.specs.Step.{refusal};
+ghost use Rattle.shape.specs.Operand.{goodOf};
+ghost use Rattle.shape.specs.Pairing.{targetsOf};
+ghost use Rattle.shape.specs.Meaning.{aScalar, oneOf, stepAnswer, scalarsTyped, convertedTo, judged, binaryMeaning};
+
+// A refusal without a detail, as a step.
+fn refuse(number: u8) -> Step
+    ensures { λ s. ⌜ s ≡ Step.Refused (refusal number 0) ⌝ }
+{
+    Step::Refused(Refusal { number, detail: 0 })
+}
+
+// A scalar as an answer.
+fn one(ty: u8, bits: u64) -> Outcome
+    ensures { λ o. ⌜ o ≡ oneOf ty bits ⌝ }
+{
+    let mut comps = [0u64; 16];
+    comps[0] = bits;
+    answered(Instance {
+        ty,
+        cols: 1,
+        rows: 1,
+        comps,
+    })
+}
+
+// A step as an answer.
+pub(crate) fn settled(step: Step) -> Outcome
+    ensures { λ o. ⌜ o ≡ stepAnswer step ⌝ }
+{
+    match step {
+        Step::Bits(ty, bits) => one(ty, bits),
+        Step::Refused(r) => refused(r.number, r.detail),
+    }
+}
+
+// Two converted patterns: the type's right, and one step.
+fn operate(op: u8, stage: u8, ty: u8, p: u64, q: u64) -> Step
+    ensures { λ s. ⌜ stepAnswer s ≡ scalarsTyped op stage ty p q ⌝ }
+{
+    if !scalar::right(op, ty) {
+        return refuse(2);
+    }
+    let step = scalar::binary_step(op, stage, ty, p, q);
+    let Step::Bits(_, bits) = step else {
+        return step;
+    };
+    Step::Bits(result_type(op, ty), bits)
+}
+
+// Conversions of both, left first, and what comes after. Patterns that have their types are worked on as they stand.
+fn convert(op: u8, stage: u8, x: u8, y: u8, lt: u8, l: u64, rt: u8, r: u64) -> Step
+    requires { ⌜ (goodOf (aScalar lt l) ≡ true) × (goodOf (aScalar rt r) ≡ true) × (targetsOf op lt rt ≡ Targets.Types x y) ⌝ }
+    ensures { λ s. ⌜ stepAnswer s ≡ convertedTo x y op stage (aScalar lt l) (aScalar rt r) ⌝ }
+{
+    if (lt == x) & (rt == y) {
+        return operate(op, stage, x, l, r);
+    }
+    let left = scalar::convert_step(lt, x, l);
+    let Conv::Bits(p) = left else {
+        return refuse(2);
+    };
+    let right = scalar::convert_step(rt, y, r);
+    let Conv::Bits(q) = right else {
+        return refuse(2);
+    };
+    operate(op, stage, x, p, q)
+}
+
+// The common type, and what comes after.
+fn judge(op: u8, stage: u8, lt: u8, l: u64, rt: u8, r: u64) -> Step
+    requires { ⌜ (goodOf (aScalar lt l) ≡ true) × (goodOf (aScalar rt r) ≡ true) ⌝ }
+    ensures { λ s. ⌜ stepAnswer s ≡ judged op stage (aScalar lt l) (aScalar rt r) ⌝ }
+{
+    let targets = targets_of(op, lt, rt);
+    let Targets::Types(x, y) = targets else {
+        return refuse(2);
+    };
+    convert(op, stage, x, y, lt, l, rt, r)
+}
+
+// Operator and stage are judged first, then the operands, left first.
+pub(crate) fn step(op: u8, stage: u8, lt: u8, l: u64, rt: u8, r: u64) -> Step
+    ensures { λ s. ⌜ stepAnswer s ≡ binaryMeaning op stage (aScalar lt l) (aScalar rt r) ⌝ }
+{
+    if !op_known(op) {
+        return refuse(25);
+    }
+    if !stage_known(stage) {
+        return refuse(23);
+    }
+    if !scalar::proper(lt, l) {
+        return refuse(26);
+    }
+    if !scalar::proper(rt, r) {
+        return refuse(26);
+    }
+    judge(op, stage, lt, l, rt, r)
+}
