@@ -9,7 +9,7 @@ pub mod Answers
 pub mod Typed
 pub mod Outcomes
 pub mod Stands
-pub mod TwoScalars
+pub mod OnScalars
 pub mod Single
 pub mod Cases
 pub mod Impostors

@@ -13,6 +13,8 @@ use Rattle.shape.proofs.shape_ok.Kinds as shape-ok-kinds
 use Rattle.shape.proofs.shape_ok.Reads as shape-ok-reads
 use Rattle.shape.proofs.unary.Kinds as unary-kinds
 use Rattle.shape.proofs.unary.Reads as unary-reads
+use Rattle.shape.proofs.unary_scalar.Kinds as unary-scalar-kinds
+use Rattle.shape.proofs.unary_scalar.Reads as unary-scalar-reads
 use Rattle.shape.proofs.binary.Kinds as binary-kinds
 use Rattle.shape.proofs.binary.Reads as binary-reads
 use Rattle.shape.proofs.binary_scalars.Kinds as binary-scalars-kinds
@@ -75,6 +77,9 @@ shape-ok-one κs a x y s t p q = p ∙ sym q
 
 pub unary-one : OneResult 0 unary-kinds.ps unary-kinds.r unary-reads.Post
 unary-one κs a x y s t p q = p ∙ sym q
+
+pub unary-scalar-one : OneResult 0 unary-scalar-kinds.ps unary-scalar-kinds.r unary-scalar-reads.Post
+unary-scalar-one κs a x y s t p q = p ∙ sym q
 
 pub binary-one : OneResult 0 binary-kinds.ps binary-kinds.r binary-reads.Post
 binary-one κs a x y s t p q = p ∙ sym q

@@ -5,7 +5,7 @@
 //   components.rt  work component by component
 //   products.rt    sums of products: vector and matrix, matrix and matrix
 //   dispatch.rt    an operator on operands of any shape, check after check
-//   scalars.rt     the same on two scalars, without arrays
+//   scalars.rt     the same on scalars, without arrays
 //   operators.rt   the operators under their own names
 ghost use mathlib.Core.Path.{_≡_};
 ghost use Rattle.shape.specs.Operand.{shapeOk};
@@ -74,10 +74,24 @@ pub fn shape_ok(ty: u8, cols: u8, rows: u8) -> bool
         & ((cols == 1) | (2 <= cols) & (cols <= 4) & (2 <= rows) & ((ty == 2) | (5 <= ty)))
 }
 
+// The unary operator of a code on a scalar, by its type and pattern.
+pub fn unary_scalar(op: u8, stage: u8, ty: u8, bits: u64) -> Outcome
+    ensures { λ o. ⌜ o ≡ unaryMeaning op stage (aScalar ty bits) ⌝ }
+{
+    scalars::settled(scalars::unary(op, stage, ty, bits))
+}
+
 // The unary operator of a code, on any operand: operator and stage are judged first, then the operand.
 pub fn unary(op: u8, stage: u8, v: Instance) -> Outcome
     ensures { λ o. ⌜ o ≡ unaryMeaning op stage v ⌝ }
 {
+    let s = Shape {
+        cols: v.cols,
+        rows: v.rows,
+    };
+    if operand::is_scalar(s) {
+        return unary_scalar(op, stage, v.ty, v.comps[0]);
+    }
     if !pairing::unary_known(op) {
         return refused(25, 0);
     }
@@ -94,7 +108,7 @@ pub fn unary(op: u8, stage: u8, v: Instance) -> Outcome
 pub fn binary_scalars(op: u8, stage: u8, lt: u8, l: u64, rt: u8, r: u64) -> Outcome
     ensures { λ o. ⌜ o ≡ binaryMeaning op stage (aScalar lt l) (aScalar rt r) ⌝ }
 {
-    scalars::settled(scalars::step(op, stage, lt, l, rt, r))
+    scalars::settled(scalars::binary(op, stage, lt, l, rt, r))
 }
 
 // The binary operator of a code, on any operands: operator and stage are judged first, then the operands, left first.

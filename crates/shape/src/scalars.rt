@@ -1,9 +1,10 @@
-// A binary operator on two scalars, which go by their types and patterns and without arrays: the checks of `binary` in their order.
+// An operator on scalars, which go by their types and patterns and without arrays: the checks of `unary` and `binary` in their order.
 use super::pairing::Targets;
 use super::pairing::op_known;
 use super::pairing::result_type;
 use super::pairing::stage_known;
 use super::pairing::targets_of;
+use super::pairing::unary_known;
 use crate::Instance;
 use crate::Outcome;
 use crate::answered;
@@ -16,7 +17,7 @@ ghost use mathlib.Core.Bool.{true};
 ghost use Rattle.scalar.specs.Step.{refusal};
 ghost use Rattle.shape.specs.Operand.{goodOf};
 ghost use Rattle.shape.specs.Pairing.{targetsOf};
-ghost use Rattle.shape.specs.Meaning.{aScalar, oneOf, stepAnswer, scalarsTyped, convertedTo, judged, binaryMeaning};
+ghost use Rattle.shape.specs.Meaning.{aScalar, oneOf, stepAnswer, scalarsTyped, convertedTo, judged, unaryMeaning, binaryMeaning};
 
 // A refusal without a detail, as a step.
 fn refuse(number: u8) -> Step
@@ -47,6 +48,29 @@ pub(crate) fn settled(step: Step) -> Outcome
         Step::Bits(ty, bits) => one(ty, bits),
         Step::Refused(r) => refused(r.number, r.detail),
     }
+}
+
+// A unary operator: operator and stage are judged first, then the operand, then the type's right.
+pub(crate) fn unary(op: u8, stage: u8, ty: u8, bits: u64) -> Step
+    ensures { λ s. ⌜ stepAnswer s ≡ unaryMeaning op stage (aScalar ty bits) ⌝ }
+{
+    if !unary_known(op) {
+        return refuse(25);
+    }
+    if !stage_known(stage) {
+        return refuse(23);
+    }
+    if !scalar::proper(ty, bits) {
+        return refuse(26);
+    }
+    if !scalar::unary_right(op, ty) {
+        return refuse(1);
+    }
+    let step = scalar::unary_step(op, ty, bits);
+    let Step::Bits(_, worked) = step else {
+        return step;
+    };
+    Step::Bits(ty, worked)
 }
 
 // Two converted patterns: the type's right, and one step.
@@ -94,8 +118,8 @@ fn judge(op: u8, stage: u8, lt: u8, l: u64, rt: u8, r: u64) -> Step
     convert(op, stage, x, y, lt, l, rt, r)
 }
 
-// Operator and stage are judged first, then the operands, left first.
-pub(crate) fn step(op: u8, stage: u8, lt: u8, l: u64, rt: u8, r: u64) -> Step
+// A binary operator: operator and stage are judged first, then the operands, left first.
+pub(crate) fn binary(op: u8, stage: u8, lt: u8, l: u64, rt: u8, r: u64) -> Step
     ensures { λ s. ⌜ stepAnswer s ≡ binaryMeaning op stage (aScalar lt l) (aScalar rt r) ⌝ }
 {
     if !op_known(op) {

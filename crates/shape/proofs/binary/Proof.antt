@@ -3,7 +3,7 @@ use mathlib.Core.Path.{_∙_, sym}
 use borrow.Author.Tests.{not-false}
 use Rattle.shape.specs.Meaning.{binaryMeaning}
 use Rattle.shape.proofs.Checks.{need-no, need-yes}
-use Rattle.shape.proofs.TwoScalars.{scalars-stand}
+use Rattle.shape.proofs.OnScalars.{scalars-stand}
 use borrow.Author.Needs.{needs}
 use Rattle.shape.proofs.binary.Statement.{statement}
 use Rattle.shape.proofs.binary.Tie as tie

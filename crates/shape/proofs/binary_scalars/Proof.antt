@@ -4,14 +4,14 @@ use borrow.Author.Needs.{needs}
 use Rattle.shape.proofs.binary_scalars.Statement.{statement}
 use Rattle.shape.proofs.binary_scalars.Tie as tie
 
-step-requires : tie.Need-step-requires
-step-requires c κs = search needs
+binary-requires : tie.Need-binary-requires
+binary-requires c κs = search needs
 
 settled-requires : tie.Need-settled-requires
 settled-requires c κs = search needs
 
 returns : tie.Need-returns
-returns c = c .settled .ensures ∙ c .before .step .ensures
+returns c = c .settled .ensures ∙ c .before .binary .ensures
 
 pub binary-scalars-spec : {M : Type 1} → statement M
-binary-scalars-spec = tie.close (tie.spec step-requires settled-requires returns)
+binary-scalars-spec = tie.close (tie.spec binary-requires settled-requires returns)

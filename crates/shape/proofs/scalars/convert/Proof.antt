@@ -2,7 +2,7 @@
 use mathlib.Core.Path.{sym, ap, _∙_}
 use Rattle.shape.specs.Meaning.{aScalar, stepAnswer}
 use Rattle.shape.proofs.Stands.{stands}
-use Rattle.shape.proofs.TwoScalars.{conv-none, conv-bits, converted-one}
+use Rattle.shape.proofs.OnScalars.{conv-none, conv-bits, converted-one}
 use borrow.Author.Needs.{needs}
 use Rattle.shape.proofs.scalars.convert.Statement.{statement}
 use Rattle.shape.proofs.scalars.convert.Tie as tie

@@ -3,7 +3,7 @@ use mathlib.Core.Path.{sym, ap, _∙_}
 use Prim.Native.Nat.{ℕ}
 use Rattle.shape.specs.Meaning.{oneOf, stepAnswer}
 use Rattle.shape.proofs.Checks.{need-no, need-yes}
-use Rattle.shape.proofs.TwoScalars.{step-refused, step-bits, operated}
+use Rattle.shape.proofs.OnScalars.{step-refused, step-bits, operated}
 use borrow.Author.Needs.{needs}
 use Rattle.shape.proofs.scalars.operate.Statement.{statement}
 use Rattle.shape.proofs.scalars.operate.Tie as tie

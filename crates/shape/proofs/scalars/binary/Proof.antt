@@ -1,12 +1,12 @@
--- `shape::scalars::step` meets its contract. Assumes nothing.
+-- `shape::scalars::binary` meets its contract. Assumes nothing.
 use mathlib.Core.Path.{sym, ap, _∙_}
 use borrow.Author.Tests.{not-false}
 use Rattle.shape.specs.Meaning.{stepAnswer, binaryMeaning}
 use Rattle.shape.proofs.Checks.{need-no, need-yes}
-use Rattle.shape.proofs.TwoScalars.{good-one}
+use Rattle.shape.proofs.OnScalars.{good-one}
 use borrow.Author.Needs.{needs}
-use Rattle.shape.proofs.scalars.step.Statement.{statement}
-use Rattle.shape.proofs.scalars.step.Tie as tie
+use Rattle.shape.proofs.scalars.binary.Statement.{statement}
+use Rattle.shape.proofs.scalars.binary.Tie as tie
 
 op-known-requires : tie.Need-op-known-requires
 op-known-requires c κs = search needs
@@ -55,8 +55,8 @@ returns-5 : tie.Need-returns-5
 unfolding binaryMeaning
 returns-5 c = need-yes _ _ (c .before .before .before .before .before .before .before .before .op-known .ensures) _ _ _ (c .before .before .before .before .before .before .before .if1 .left) (need-yes _ _ (c .before .before .before .before .before .before .stage-known .ensures) _ _ _ (c .before .before .before .before .before .if2 .left) (need-yes _ _ (c .before .before .before .before .proper .ensures ∙ sym (good-one _ _)) _ _ _ (c .before .before .before .if3 .left) (need-yes _ _ (c .before .before .proper2 .ensures ∙ sym (good-one _ _)) _ _ _ (c .before .if4 .left) (c .judge .ensures))))
 
-pub step-spec : {M : Type 1} → statement M
-step-spec =
+pub binary-spec : {M : Type 1} → statement M
+binary-spec =
     tie.close
     (tie.spec
     op-known-requires

@@ -1,6 +1,6 @@
--- Two scalars: what an operator gives on them by components is one step on their converted patterns. Assumes nothing.
+-- Scalars: what an operator gives on them by components is one step on their converted patterns. Assumes nothing.
 use mathlib.Core.Path.{_≡_, refl, sym, ap, _∙_}
-use mathlib.Core.Bool.{Bool, true, false, _&&_, _||_}
+use mathlib.Core.Bool.{Bool, true, false, not, _&&_, _||_}
 use mathlib.Core.List.{List, _∷_}
 use Prim.Native.Nat.{ℕ, _^_, _<_}
 use lib.Dec.{eqb, leb, ltb}
@@ -13,11 +13,11 @@ use Rattle.scalar.specs.declared.Refusal.{Refusal}
 use Rattle.scalar.specs.declared.Step.{Step}
 use Rattle.scalar.specs.declared.Step.the-variants as S
 use Rattle.scalar.specs.Pattern.{pick, properOf}
-use Rattle.scalar.specs.Step.{stepOf, convOf, rightOf}
-use Rattle.shape.specs.Operand.{shapeOk, shapeOf, isScalar, countOf, upTo, every, partOf, goodOf}
-use Rattle.shape.specs.Components.{Out, got, stop, through, worked, bitsOf, convBits, pairAt, lane, convAt}
-use Rattle.shape.specs.Pairing.{opKnown, stageKnown, innerOk, sameShape, pairOk, targetsOf, resultType}
-use Rattle.shape.specs.Meaning.{refusedWith, need, onGot, answer, aScalar, oneOf, stepAnswer, scalarsTyped, multiplied, compwise, typed, convertedTo, onTargets, judged, binaryMeaning}
+use Rattle.scalar.specs.Step.{stepOf, unaryStepOf, convOf, rightOf, unaryRightOf}
+use Rattle.shape.specs.Operand.{shapeOk, shapeOf, isScalar, isMatrix, countOf, upTo, every, partOf, goodOf}
+use Rattle.shape.specs.Components.{Out, got, stop, through, worked, bitsOf, convBits, pairAt, unaryAt, lane, convAt}
+use Rattle.shape.specs.Pairing.{opKnown, unaryKnown, stageKnown, innerOk, sameShape, pairOk, targetsOf, resultType}
+use Rattle.shape.specs.Meaning.{refusedWith, need, onGot, answer, aScalar, oneOf, stepAnswer, scalarsTyped, multiplied, compwise, typed, convertedTo, onTargets, judged, unaryJudged, unaryMeaning, binaryMeaning}
 use Rattle.shape.specs.declared.Instance.{Instance}
 use Rattle.shape.specs.declared.Outcome.{Outcome}
 use Rattle.shape.specs.declared.operand.Shape.{Shape}
@@ -91,6 +91,13 @@ module _ (op stage ty : ℕ) where
   pub operated : (p q : ℕ) → scalarsTyped op stage ty p q ≡ need (rightOf op ty) 2 (onGot (bitsOf (stepOf op stage ty p q)) (oneOf (resultType op ty)))
   operated p q = typed-one _ _ ∙ ap (need (rightOf op ty) 2) (compwise-one p q (replicate 15 0) (replicate 15 0))
 
+-- a unary operator on a scalar
+pub unary-one : (op ty b : ℕ) → unaryJudged op (aScalar ty b) ≡ need (unaryRightOf op ty) 1 (onGot (bitsOf (unaryStepOf op ty b)) (oneOf ty))
+unfolding unaryJudged
+unary-one op ty b =
+    ap (λ (o : Out (List ℕ)). need (unaryRightOf op ty) 1 (answer o ty 1 1)) (worked-one (unaryAt op ty (aScalar ty b .comps)))
+    ∙ ap (need (unaryRightOf op ty) 1) (answer-one (bitsOf (unaryStepOf op ty b)) ty)
+
 -- ---- conversions
 -- two scalars by their types and patterns, their conversions one after the other
 abbrev pub converts : ℕ → ℕ → ℕ → ℕ → ℕ → ℕ → ℕ → ℕ → Outcome
@@ -157,6 +164,20 @@ judged-first op stage l r p q =
     go : (t : Targets) → onTargets t op stage l r ≡ onTargets t op stage (first l) (first r)
     go (T.Types x y) = two-scalars x y op stage l r p q ∙ sym (converted-one x y op stage _ _ _ _)
     go T.Nothing = refl
+
+unary-first : (op : ℕ) (v : Instance) → shapeOf v ≡ unit → unaryJudged op v ≡ unaryJudged op (first v)
+unfolding unaryJudged
+unary-first op v p =
+    (λ i. need (not (isMatrix (p i))) 1 (need (unaryRightOf op (v .ty)) 1 (answer (worked (unaryAt op (v .ty) (v .comps)) (countOf (p i))) (v .ty) (p i .cols) (p i .rows))))
+    ∙ ap (λ (o : Out (List ℕ)). need (unaryRightOf op (v .ty)) 1 (answer o (v .ty) 1 1)) (worked-one (unaryAt op (v .ty) (v .comps)) ∙ sym (worked-one (unaryAt op (v .ty) (first v .comps))))
+
+-- an outcome worked on a scalar is that on the operand
+pub scalar-stands : (op stage : ℕ) (v : Instance) (s : Bool) (o : Outcome) → s ≡ isScalar (shapeOf v) → s ≡ true
+    → o ≡ unaryMeaning op stage (first v) → o ≡ unaryMeaning op stage v
+unfolding unaryMeaning
+scalar-stands op stage v s o a h e =
+    let p : shapeOf v ≡ unit = is-unit (shapeOf v) (sym a ∙ h) in
+    e ∙ sym (λ i. need (unaryKnown op) 25 (need (stageKnown stage) 23 (need (good-first v p i) 26 (unary-first op v p i))))
 
 -- an outcome worked on two scalars is that on the operands
 pub scalars-stand : (op stage : ℕ) (l r : Instance) (s t : Bool) (o : Outcome) → s ≡ isScalar (shapeOf l) → t ≡ isScalar (shapeOf r) → (s && t) ≡ true
