@@ -41,7 +41,7 @@ use Rattle.scalar.specs.Arithmetic.{inExec, finiteOr, settled, wholeOr, 
 use Rattle.scalar.specs.Logical.{logical}
 use Rattle.scalar.specs.Comparison.{equality, order, numbersOf}
 use Rattle.scalar.specs.Unary.{notOf, negOf, bitNotOf}
-use Rattle.scalar.specs.Bits.{onBits, bitwise, bitOrOf, bitAndOf, bitXorOf}
+use Rattle.scalar.specs.Bits.{signedBits, bitwise, bitOrOf, bitAndOf, bitXorOf}
 use Rattle.scalar.specs.Shift.{shlExact, shlWrapped, shrExact, shrReduced, shlBy, shrBy, byCount, shlOf, shrOf}
 use Rattle.scalar.proofs.Sound.{Sound, Couple, bits-fit}
 use Rattle.scalar.proofs.Negated.{sign-set, sign-cleared, half-nan}
@@ -241,7 +241,7 @@ module _ (z : ℤ → ℤ → Bool) (f : Float → Float → Bool) where
 
 -- ---- bits
 module _ (bools : Bool → Bool → Result) (op : ℕ → ℕ → ℕ) (k : (ty : ℕ) (x y : Bool) → ty ≡ 0 → Kept ty (bools x y)) (fit : (w : Width) (a b : ℕ) → Fits w a → Fits w b → Fits w (op a b)) where
-  on-bits : (w : Width) (x y : ℤ) → SFits w x → SFits w y → SFits w (onBits w op x y)
+  on-bits : (w : Width) (x y : ℤ) → SFits w x → SFits w y → SFits w (signedBits w op x y)
   on-bits w x y f g = toZ-fits w (op (ofZ w x) (ofZ w y)) (fit w (ofZ w x) (ofZ w y) (bits-fit w x f) (bits-fit w y g))
 
   bitwise-kept : (ty : ℕ) (p : Pair) → Couple ty p → Kept ty (bitwise bools op p)

@@ -11,15 +11,15 @@ use Rattle.scalar.specs.declared.Pair.the-variants as P
 use Rattle.scalar.specs.Answer.{Result, value, binary}
 
 -- an operation on the bits of two signed numbers
-abbrev pub onBits : Width → (ℕ → ℕ → ℕ) → ℤ → ℤ → ℤ
-onBits w op x y = toZ w (op (ofZ w x) (ofZ w y))
+abbrev pub signedBits : Width → (ℕ → ℕ → ℕ) → ℤ → ℤ → ℤ
+signedBits w op x y = toZ w (op (ofZ w x) (ofZ w y))
 
 -- an operator by what it does to Bools and to bits
 abbrev pub bitwise : (Bool → Bool → Result) → (ℕ → ℕ → ℕ) → Pair → Result
 bitwise bools op (P.Bool x y) = bools x y
-bitwise bools op (P.AbstractInt x y) = value (AbstractInt (onBits w64 op x y))
+bitwise bools op (P.AbstractInt x y) = value (AbstractInt (signedBits w64 op x y))
 bitwise bools op (P.AbstractFloat x y) = binary
-bitwise bools op (P.I32 x y) = value (I32 (onBits w32 op x y))
+bitwise bools op (P.I32 x y) = value (I32 (signedBits w32 op x y))
 bitwise bools op (P.U32 x y) = value (U32 (op x y))
 bitwise bools op (P.F32 x y) = binary
 bitwise bools op (P.F16 x y) = binary

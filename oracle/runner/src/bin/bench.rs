@@ -4,10 +4,11 @@
 //! The sheet has no counterpart in the text: its change is held against its fresh evaluation.
 use std::time::Instant;
 
-use host::{raw_binary, raw_change, raw_check, raw_fresh, SLOT};
-use runner::{
-    case::{Answer, Operand},
-    ops,
+use host::{raw_binary, raw_change, raw_check, raw_fresh, raw_unary, SLOT};
+use runner::{case::Operand, ops};
+use text::{
+    inst::{LiteralInstance, MatInstance, VecInstance},
+    Error, Instance,
 };
 
 /// The same value, out of the compiler's sight.
@@ -33,51 +34,110 @@ fn bytes(v: &Operand) -> Vec<u8> {
     all
 }
 
-fn operand(bytes: &[u8]) -> Operand {
-    let mut v = Operand { ty: bytes[0], cols: bytes[1], rows: bytes[2], comps: [0; 16] };
-    for (bits, b) in v.comps.iter_mut().zip(bytes[3..].chunks_exact(8)) {
-        *bits = u64::from_le_bytes(b.try_into().unwrap());
+/// The text's value of an operand's bytes.
+fn value(bytes: &[u8]) -> Instance {
+    let (ty, cols, rows) = (bytes[0], bytes[1], usize::from(bytes[2]));
+    let column = |bytes: &[u8]| -> Vec<Instance> {
+        let numbers = bytes.chunks_exact(8).map(|b| u64::from_le_bytes(b.try_into().unwrap()));
+        numbers.map(|bits| ops::literal(ty, bits).into()).collect()
+    };
+    match (cols, rows) {
+        (1, 1) => ops::literal(ty, u64::from_le_bytes(bytes[3..].try_into().unwrap())).into(),
+        (1, _) => VecInstance::new(column(&bytes[3..])).into(),
+        _ => MatInstance::from_cols(
+            bytes[3..].chunks_exact(8 * rows).map(|c| VecInstance::new(column(c)).into()).collect(),
+        )
+        .into(),
     }
-    v
 }
 
-/// The text's operator from bytes to a slot.
-fn text_bytes(op: u8, left: &[u8], right: &[u8], slot: &mut [u8; SLOT]) -> u64 {
-    let (l, r) = (ops::instance(&operand(left)), ops::instance(&operand(right)));
-    match ops::answer_of(ops::binary(op, ops::stage(0), &l, &r)) {
-        Answer::Value(v) => {
-            slot[..8].copy_from_slice(&[0, v.ty, v.cols, v.rows, 0, 0, 0, 0]);
-            for (place, bits) in slot[8..].chunks_exact_mut(8).zip(v.comps) {
-                place.copy_from_slice(&bits.to_le_bytes());
-            }
-            0
+/// The text's answer as an answer of the library, its value in a slot.
+fn settle(answer: Result<Instance, Error>, slot: &mut [u8; SLOT]) -> u64 {
+    let value = match answer {
+        Ok(value) => value,
+        Err(e) => return u64::from(e.number().0) << 32 | u64::from(e.number().1),
+    };
+    let mut ty = 0;
+    let mut at = 8;
+    let mut put = |slot: &mut [u8; SLOT], part: &LiteralInstance| {
+        let bits;
+        (ty, bits) = ops::bits(part);
+        slot[at..at + 8].copy_from_slice(&bits.to_le_bytes());
+        at += 8;
+    };
+    slot[8..].fill(0);
+    let (cols, rows) = match &value {
+        Instance::Literal(l) => {
+            put(slot, l);
+            (1, 1)
         }
-        Answer::Refused(number, detail) => u64::from(number) << 32 | u64::from(detail),
-        _ => u64::MAX,
-    }
+        Instance::Vec(v) => {
+            v.iter().for_each(|part| put(slot, part.unwrap_literal_ref()));
+            (1, v.iter().count() as u8)
+        }
+        Instance::Mat(m) => {
+            let parts = m.iter_cols().flat_map(|c| c.unwrap_vec_ref().iter());
+            parts.for_each(|part| put(slot, part.unwrap_literal_ref()));
+            (m.c() as u8, m.r() as u8)
+        }
+        _ => return u64::MAX,
+    };
+    slot[..8].copy_from_slice(&[0, ty, cols, rows, 0, 0, 0, 0]);
+    0
 }
 
-/// One line: an operator on some pairs of operands, in Const.
-fn line(name: &str, op: u8, pairs: &[(Operand, Operand)]) {
-    let given: Vec<_> = pairs.iter().map(|(l, r)| (bytes(l), bytes(r))).collect();
-    let ready: Vec<_> = pairs.iter().map(|(l, r)| (ops::instance(l), ops::instance(r))).collect();
+/// One line: the same calls through the library, through the text on values that are ready, and through the text from bytes to a slot.
+fn line<G, R>(
+    name: &str,
+    given: &[G],
+    ready: &[R],
+    booth: impl Fn(&G, &mut [u8; SLOT]) -> u64,
+    text: impl Fn(&R) -> Result<Instance, Error>,
+    text_bytes: impl Fn(&G, &mut [u8; SLOT]) -> u64,
+) {
     let (mut slot, mut other) = ([0; SLOT], [0; SLOT]);
-    for (l, r) in &given {
-        let (a, b) = (raw_binary(op, 0, l, r, &mut slot), text_bytes(op, l, r, &mut other));
+    for g in given {
+        let (a, b) = (booth(g, &mut slot), text_bytes(g, &mut other));
         assert_eq!((a, slot), (b, other), "{name}: the two answers");
         assert_eq!(a, 0, "{name}: refused");
     }
     let n = given.len() as f64;
-    let booth =
-        best(40, || given.iter().fold(0, |sum, (l, r)| sum ^ raw_binary(op, 0, hidden(l), hidden(r), &mut slot))) / n;
-    let text = best(40, || {
-        ready.iter().for_each(|(l, r)| {
-            hidden(&ops::binary(op, ops::stage(0), hidden(l), hidden(r)));
+    let ours = best(40, || given.iter().fold(0, |sum, g| sum ^ booth(hidden(&g), &mut slot))) / n;
+    let theirs = best(40, || {
+        ready.iter().for_each(|r| {
+            hidden(&text(hidden(&r)));
         })
     }) / n;
-    let whole =
-        best(40, || given.iter().fold(0, |sum, (l, r)| sum ^ text_bytes(op, hidden(l), hidden(r), &mut other))) / n;
-    println!("| {name} | {booth:.1} | {text:.1} | {whole:.1} | {:.2} | {:.2} |", booth / text, booth / whole);
+    let whole = best(40, || given.iter().fold(0, |sum, g| sum ^ text_bytes(hidden(&g), &mut other))) / n;
+    println!("| {name} | {ours:.1} | {theirs:.1} | {whole:.1} | {:.2} | {:.2} |", ours / theirs, ours / whole);
+}
+
+/// A binary operator on some pairs of operands, in Const.
+fn binary(name: &str, op: u8, pairs: &[(Operand, Operand)]) {
+    let given: Vec<_> = pairs.iter().map(|(l, r)| (bytes(l), bytes(r))).collect();
+    let ready: Vec<_> = given.iter().map(|(l, r)| (value(l), value(r))).collect();
+    line(
+        name,
+        &given,
+        &ready,
+        |(l, r), slot| raw_binary(op, 0, l, r, slot),
+        |(l, r)| ops::binary(op, ops::stage(0), l, r),
+        |(l, r), slot| settle(ops::binary(op, ops::stage(0), &value(l), &value(r)), slot),
+    );
+}
+
+/// A unary operator on some operands.
+fn unary(name: &str, op: u8, operands: &[Operand]) {
+    let given: Vec<_> = operands.iter().map(bytes).collect();
+    let ready: Vec<_> = given.iter().map(|v| value(v)).collect();
+    line(
+        name,
+        &given,
+        &ready,
+        |v, slot| raw_unary(op, 0, v, slot),
+        |v| ops::unary(op, v),
+        |v, slot| settle(ops::unary(op, &value(v)), slot),
+    );
 }
 
 /// A small number, never 0, as a pattern of a type.
@@ -91,12 +151,17 @@ fn small(ty: u8, n: u32) -> u64 {
     }
 }
 
+fn one((ty, cols, rows): (u8, u8, u8), k: u32) -> Operand {
+    let comps: Vec<u64> = (0..u32::from(cols * rows)).map(|i| small(ty, k + 7 * i)).collect();
+    Operand::new(ty, cols, rows, &comps)
+}
+
 fn pairs(l: (u8, u8, u8), r: (u8, u8, u8)) -> Vec<(Operand, Operand)> {
-    let one = |(ty, cols, rows): (u8, u8, u8), k: u32| {
-        let comps: Vec<u64> = (0..u32::from(cols * rows)).map(|i| small(ty, k + 7 * i)).collect();
-        Operand::new(ty, cols, rows, &comps)
-    };
     (0..32).map(|k| (one(l, 5 * k + 3), one(r, 3 * k + 1))).collect()
+}
+
+fn operands(v: (u8, u8, u8)) -> Vec<Operand> {
+    (0..32).map(|k| one(v, 5 * k + 3)).collect()
 }
 
 const TYPES: [&str; 7] = ["Bool", "AbstractInt", "AbstractFloat", "I32", "U32", "F32", "F16"];
@@ -106,27 +171,34 @@ fn operators() {
     println!("|---|---|---|---|---|---|");
     for ty in 1..7 {
         for (op, sign) in [(3, "+"), (4, "-"), (5, "*"), (6, "/"), (7, "%")] {
-            line(&format!("{} {sign}", TYPES[usize::from(ty)]), op, &pairs((ty, 1, 1), (ty, 1, 1)));
+            binary(&format!("{} {sign}", TYPES[usize::from(ty)]), op, &pairs((ty, 1, 1), (ty, 1, 1)));
         }
     }
     for (l, r) in [(1, 3), (1, 5), (1, 6), (2, 5), (2, 6)] {
-        line(&format!("{} + {}", TYPES[l], TYPES[r]), 3, &pairs((l as u8, 1, 1), (r as u8, 1, 1)));
+        binary(&format!("{} + {}", TYPES[l], TYPES[r]), 3, &pairs((l as u8, 1, 1), (r as u8, 1, 1)));
     }
     for ty in 1..7 {
-        line(&format!("{} <", TYPES[usize::from(ty)]), 10, &pairs((ty, 1, 1), (ty, 1, 1)));
+        binary(&format!("{} <", TYPES[usize::from(ty)]), 10, &pairs((ty, 1, 1), (ty, 1, 1)));
     }
     for ty in [1, 3, 4] {
-        line(&format!("{} <<", TYPES[usize::from(ty)]), 17, &pairs((ty, 1, 1), (4, 1, 1)));
-        line(&format!("{} >>", TYPES[usize::from(ty)]), 18, &pairs((ty, 1, 1), (4, 1, 1)));
+        binary(&format!("{} <<", TYPES[usize::from(ty)]), 17, &pairs((ty, 1, 1), (4, 1, 1)));
+        binary(&format!("{} >>", TYPES[usize::from(ty)]), 18, &pairs((ty, 1, 1), (4, 1, 1)));
+    }
+    for ty in [1, 2, 3, 5, 6] {
+        unary(&format!("- {}", TYPES[usize::from(ty)]), 2, &operands((ty, 1, 1)));
+    }
+    for ty in [1, 3, 4] {
+        unary(&format!("~ {}", TYPES[usize::from(ty)]), 3, &operands((ty, 1, 1)));
     }
     for ty in [3, 5, 6] {
-        line(&format!("vec4 of {} +", TYPES[usize::from(ty)]), 3, &pairs((ty, 1, 4), (ty, 1, 4)));
-        line(&format!("vec4 of {} *", TYPES[usize::from(ty)]), 5, &pairs((ty, 1, 4), (ty, 1, 4)));
+        unary(&format!("- vec4 of {}", TYPES[usize::from(ty)]), 2, &operands((ty, 1, 4)));
+        binary(&format!("vec4 of {} +", TYPES[usize::from(ty)]), 3, &pairs((ty, 1, 4), (ty, 1, 4)));
+        binary(&format!("vec4 of {} *", TYPES[usize::from(ty)]), 5, &pairs((ty, 1, 4), (ty, 1, 4)));
     }
     for ty in [2, 5, 6] {
-        line(&format!("mat4 times vec4, {}", TYPES[usize::from(ty)]), 5, &pairs((ty, 4, 4), (ty, 1, 4)));
-        line(&format!("vec4 times mat4, {}", TYPES[usize::from(ty)]), 5, &pairs((ty, 1, 4), (ty, 4, 4)));
-        line(&format!("mat4 times mat4, {}", TYPES[usize::from(ty)]), 5, &pairs((ty, 4, 4), (ty, 4, 4)));
+        binary(&format!("mat4 times vec4, {}", TYPES[usize::from(ty)]), 5, &pairs((ty, 4, 4), (ty, 1, 4)));
+        binary(&format!("vec4 times mat4, {}", TYPES[usize::from(ty)]), 5, &pairs((ty, 1, 4), (ty, 4, 4)));
+        binary(&format!("mat4 times mat4, {}", TYPES[usize::from(ty)]), 5, &pairs((ty, 4, 4), (ty, 4, 4)));
     }
 }
 
