@@ -1,22 +1,24 @@
--- When bytes are an operand.
-use Prim.Native.Nat.{ℕ, _+_, _*_}
-use mathlib.Core.Path.{_≡_, refl, sym}
-use mathlib.Core.Bool.{Bool, true, false, not}
-use mathlib.Core.List.{List}
-use lib.ListN.{length, getD, take, drop}
-use borrow.Author.Tests.{eq-eqb, ne-eqb}
+-- When bytes are an operand, and when they are a scalar.
+use Prim.Native.Nat.{ℕ, _+_, _*_, _≤_}
+use mathlib.Core.Path.{_≡_, refl, sym, _∙_}
+use mathlib.Core.Bool.{Bool, true, false, not, _&&_}
+use mathlib.Core.List.{List, _∷_}
+use native.Mathlib.Omega.{arith}
+use lib.Dec.{eqb, leb}
+use lib.ListN.{length, getD, take, drop, replicate, length-drop}
+use lib.Seq.{take-all}
+use borrow.Author.Tests.{eq-eqb, ne-eqb, eqb-true, not-true, not-false}
+use Rattle.scalar.specs.Pattern.{pick}
 use Rattle.shape.specs.declared.Instance.{Instance}
+use Rattle.shape.specs.declared.Outcome.{Outcome}
 use Rattle.shape.specs.Operand.{shapeOk}
-use Rattle.fields.specs.Field.{sixteen}
-use Rattle.booth.specs.Operand.{nothing, operandIn}
-
-not-true : (q : Bool) → not q ≡ true → q ≡ false
-not-true true e = sym e
-not-true false e = refl
-
-not-false : (q : Bool) → not q ≡ false → q ≡ true
-not-false true e = refl
-not-false false e = sym e
+use Rattle.shape.specs.Meaning.{binaryMeaning, aScalar}
+use Rattle.shape.proofs.Places.{both}
+use Rattle.fields.specs.Field.{eight, sixteen}
+use Rattle.fields.proofs.Sixteen.{sixteen-one}
+use Rattle.booth.specs.Operand.{nothing, operandIn, scalarIn}
+use Rattle.booth.specs.declared.direct.One.{One}
+use Rattle.booth.specs.declared.direct.One.the-variants as O
 
 module _ (b : List ℕ) (t c r : ℕ) (et : t ≡ getD b 0 0) (ec : c ≡ getD b 1 0) (er : r ≡ getD b 2 0) (q : Bool) (s : q ≡ shapeOk t c r) where
   pub no-shape : not q ≡ true → (x : Instance) → x ≡ nothing → x ≡ operandIn b
@@ -32,3 +34,56 @@ module _ (b : List ℕ) (t c r : ℕ) (et : t ≡ getD b 0 0) (ec : c ≡ getD b
         → _≡_ {A = Instance} (record { ty = t; cols = c; rows = r; comps = xs }) (operandIn b)
     unfolding operandIn
     there n a l xs p e z = rw (← et, ← ec, ← er, ← s, not-false q g, ← a, eq-eqb (length b) (3 + 8 * n) l, e, z)
+
+-- ---- scalars
+-- the first three bytes are a known type, one column and one row
+abbrev headed : List ℕ → Bool
+headed b = leb (getD b 0 0) 6 && eqb (getD b 1 0) 1 && eqb (getD b 2 0) 1
+
+-- bytes of another length are no scalar
+pub other-length : (b : List ℕ) → (length b ≡ 11 → ⊥) → O.Other ≡ scalarIn b
+unfolding scalarIn
+other-length b f = rw (ne-eqb (length b) 11 f)
+
+module _ (b : List ℕ) (l : length b ≡ 11) where
+  -- nor are bytes of another type or shape
+  pub other-head : not (headed b) ≡ true → O.Other ≡ scalarIn b
+  unfolding scalarIn
+  other-head f = rw (eq-eqb (length b) 11 l, not-true (headed b) f)
+
+  -- any others are one
+  pub the-scalar : not (headed b) ≡ false → (x : ℕ) (p : List ℕ) → x ≡ eight p → p ≡ take 8 (drop 3 b) → O.Scalar (getD b 0 0) x ≡ scalarIn b
+  unfolding scalarIn
+  the-scalar g x p e z = rw (eq-eqb (length b) 11 l, not-false (headed b) g, e, z)
+
+  -- the components in the bytes of a scalar are its pattern and fifteen zeros
+  one-component : sixteen (take 128 (drop 3 b)) ≡ eight (take 8 (drop 3 b)) ∷ replicate 15 0
+  one-component =
+      let n : length (drop 3 b) ≤ 8 = omega (arith, length-drop 3 b) in
+      rw (take-all 128 (drop 3 b) (omega arith), take-all 8 (drop 3 b) n) (sym (sixteen-one (drop 3 b) n))
+
+  -- they are the operand of that type and pattern
+  operand-one : headed b ≡ true → operandIn b ≡ aScalar (getD b 0 0) (eight (take 8 (drop 3 b)))
+  unfolding operandIn
+  operand-one h =
+      let k = both (leb (getD b 0 0) 6 && eqb (getD b 1 0) 1) (eqb (getD b 2 0) 1) h in
+      let j = both (leb (getD b 0 0) 6) (eqb (getD b 1 0) 1) (k .0) in
+      let c : getD b 1 0 ≡ 1 = eqb-true _ _ (j .1) in
+      let r : getD b 2 0 ≡ 1 = eqb-true _ _ (k .1) in
+      rw (c, r, j .0, l, one-component)
+
+-- the operand in bytes that are a scalar
+scalar-operand : (b : List ℕ) (t x : ℕ) → scalarIn b ≡ O.Scalar t x → operandIn b ≡ aScalar t x
+unfolding scalarIn
+scalar-operand b t x h = go (eqb (length b) 11) (headed b) refl refl h
+  where
+    go : (p q : Bool) → eqb (length b) 11 ≡ p → headed b ≡ q → pick p (pick q (O.Scalar (getD b 0 0) (eight (take 8 (drop 3 b)))) O.Other) O.Other ≡ O.Scalar t x
+        → operandIn b ≡ aScalar t x
+    go true true l k e = operand-one b (eqb-true (length b) 11 l) k ∙ cc
+    go true false l k e = absurd (let y : _≡_ {A = ℕ} 0 1 = cc in omega arith)
+    go false q l k e = absurd (let y : _≡_ {A = ℕ} 0 1 = cc in omega arith)
+
+-- an outcome worked on two scalars is that of the operands in their bytes
+pub two-scalars : (a b : List ℕ) (p q : One) → p ≡ scalarIn a → q ≡ scalarIn b → (t x u y : ℕ) → p ≡ O.Scalar t x → q ≡ O.Scalar u y
+    → (op stage : ℕ) (o : Outcome) → o ≡ binaryMeaning op stage (aScalar t x) (aScalar u y) → o ≡ binaryMeaning op stage (operandIn a) (operandIn b)
+two-scalars a b p q f g t x u y k m op stage o e = rw (scalar-operand a t x (sym f ∙ k), scalar-operand b u y (sym g ∙ m)) e

@@ -2,15 +2,17 @@
 use Prim.Native.Nat.{ℕ, _+_, _*_}
 use mathlib.Core.Bool.{_&&_}
 use mathlib.Core.List.{List}
-use lib.Dec.{eqb}
+use lib.Dec.{eqb, leb}
 use lib.ListN.{length, getD, take, drop, replicate}
 use Rattle.scalar.specs.Pattern.{pick}
 use Rattle.shape.specs.declared.Instance.{Instance}
 use Rattle.shape.specs.declared.Outcome.{Outcome}
 use Rattle.shape.specs.Operand.{shapeOk}
 use Rattle.slot.specs.Slot.{bytesOf}
-use Rattle.fields.specs.Field.{sixteen}
+use Rattle.fields.specs.Field.{eight, sixteen}
 use Rattle.booth.specs.Answer.{packed}
+use Rattle.booth.specs.declared.direct.One.{One}
+use Rattle.booth.specs.declared.direct.One.the-variants as O
 
 -- no operand: its type is unknown and it has no shape, so that it is malformed
 abbrev pub nothing : Instance
@@ -32,3 +34,13 @@ directAnswer slot o = pick (eqb (length slot) 136) (packed (o .status) (o .detai
 -- the slot is written on success alone
 unfoldable pub directBytes : List ℕ → Outcome → List ℕ
 directBytes slot o = pick (eqb (length slot) 136 && eqb (o .status) 0) (bytesOf o) slot
+
+-- ---- for the contracts of private functions
+-- a scalar by its type and pattern: 11 bytes, a known type, one column and one row
+unfoldable pub scalarIn : List ℕ → One
+scalarIn b =
+    pick (eqb (length b) 11)
+    (pick (leb (getD b 0 0) 6 && eqb (getD b 1 0) 1 && eqb (getD b 2 0) 1)
+    (O.Scalar (getD b 0 0) (eight (take 8 (drop 3 b))))
+    O.Other)
+    O.Other

@@ -4,7 +4,14 @@ use shape::Instance;
 use shape::Outcome;
 ghost use mathlib.Core.Path.{_≡_};
 ghost use Prim.Native.Nat.{_*_, _≤_};
-ghost use Rattle.booth.specs.Operand.{nothing, operandIn, directAnswer, directBytes};
+ghost use Rattle.shape.specs.Meaning.{binaryMeaning};
+ghost use Rattle.booth.specs.Operand.{nothing, operandIn, directAnswer, directBytes, scalarIn};
+
+// A scalar by its type and pattern, or other bytes.
+pub(crate) enum One {
+    Scalar(u8, u64),
+    Other,
+}
 
 // How many components a shape has.
 fn area(cols: u8, rows: u8) -> usize
@@ -47,6 +54,19 @@ pub(crate) fn operand(b: &[u8]) -> Instance
     }
 }
 
+// The scalar in bytes: a known type, one column, one row, and 8 bytes. The length is judged first, so that the bytes are there.
+pub(crate) fn one_in(b: &[u8]) -> One
+    ensures { λ r. ⌜ r ≡ scalarIn (now (b .entry)) ⌝ }
+{
+    if b.len() != 11 {
+        return One::Other;
+    }
+    if !((b[0] <= 6) & (b[1] == 1) & (b[2] == 1)) {
+        return One::Other;
+    }
+    One::Scalar(b[0], fields::number(fields::part(b, 3, 8)))
+}
+
 // Answers an outcome, and puts its value into a slot where there is one. The slot's size is judged first.
 pub(crate) fn settle(slot: &mut [u8], o: Outcome) -> u64
     ensures { λ r. ⌜ (r ≡ directAnswer (now (slot .entry)) o) × (now (slot .exit) ≡ directBytes (now (slot .entry)) o) ⌝ }
@@ -60,4 +80,14 @@ pub(crate) fn settle(slot: &mut [u8], o: Outcome) -> u64
     }
     slot::put(slot, 0, o);
     answer
+}
+
+// A binary operator on operands of any shape, by way of records.
+pub(crate) fn general(op: u8, stage: u8, left: &[u8], right: &[u8], slot: &mut [u8]) -> u64
+    ensures { λ r. ⌜ (r ≡ directAnswer (now (slot .entry)) (binaryMeaning op stage (operandIn (now (left .entry))) (operandIn (now (right .entry)))))
+        × (now (slot .exit) ≡ directBytes (now (slot .entry)) (binaryMeaning op stage (operandIn (now (left .entry))) (operandIn (now (right .entry))))) ⌝ }
+{
+    let l = operand(left);
+    let r = operand(right);
+    settle(slot, shape::binary(op, stage, l, r))
 }

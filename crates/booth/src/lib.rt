@@ -2,6 +2,7 @@
 // is success. No function has a `requires`.
 mod direct;
 
+use direct::One;
 use fold::Folded;
 ghost use mathlib.Core.Path.{_≡_};
 ghost use lib.ListN.{length};
@@ -38,15 +39,19 @@ pub extern "C" fn wgsl_unary(op: u8, stage: u8, operand: &[u8], slot: &mut [u8])
     direct::settle(slot, shape::unary(op, stage, direct::operand(operand)))
 }
 
-// A binary operator on the bytes of two operands. The slot takes the value.
+// A binary operator on the bytes of two operands. The slot takes the value. Two scalars go without records.
 #[no_mangle]
 pub extern "C" fn wgsl_binary(op: u8, stage: u8, left: &[u8], right: &[u8], slot: &mut [u8]) -> u64
     ensures { λ r. ⌜ (r ≡ directAnswer (now (slot .entry)) (binaryMeaning op stage (operandIn (now (left .entry))) (operandIn (now (right .entry)))))
         × (now (slot .exit) ≡ directBytes (now (slot .entry)) (binaryMeaning op stage (operandIn (now (left .entry))) (operandIn (now (right .entry))))) ⌝ }
 {
-    let l = direct::operand(left);
-    let r = direct::operand(right);
-    direct::settle(slot, shape::binary(op, stage, l, r))
+    let One::Scalar(lt, l) = direct::one_in(left) else {
+        return direct::general(op, stage, left, right, slot);
+    };
+    let One::Scalar(rt, r) = direct::one_in(right) else {
+        return direct::general(op, stage, left, right, slot);
+    };
+    direct::settle(slot, shape::binary_scalars(op, stage, lt, l, rt, r))
 }
 
 // Checks a sheet. The detail is the number of entries.

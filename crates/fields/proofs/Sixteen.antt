@@ -1,7 +1,7 @@
 -- Sixteen numbers, one after another.
-use mathlib.Core.Path.{_≡_, refl, sym, _∙_}
+use mathlib.Core.Path.{_≡_, refl, sym, ap, _∙_}
 use mathlib.Core.Bool.{Bool, true, false, _&&_, false≢true}
-use mathlib.Core.List.{List}
+use mathlib.Core.List.{List, _∷_}
 use Prim.Native.Nat.{ℕ, zero, suc, _+_, _*_, _-_, _<_, _≤_}
 use native.Mathlib.Omega.{arith}
 use native.Mathlib.Numerals.{add-one, unary-clauses}
@@ -9,7 +9,7 @@ use lib.ListN.{length, getD, take, set, replicate, length-set, drop-of-length-le
 use lib.Seq.{take-suc, take-suc-set, take-all, getD-set-other}
 use lib.Dec.{ltb}
 use borrow.Author.Tests.{ltb-true, lt-ltb}
-use Rattle.fields.specs.Field.{nth, tab, sixteen}
+use Rattle.fields.specs.Field.{eight, nth, tab, sixteen}
 
 -- of the sixteen numbers of s the first i are read, and the others are 0 still
 pub record Reading (s xs : List ℕ) (i : ℕ) : Type 0 where
@@ -54,6 +54,11 @@ reading-all {s} {xs} {i} r h =
     let e : i + (16 - i) ≡ 16 = omega arith in
     sym (take-all 16 xs (omega arith))
     ∙ rw e at (tab-rest (nth s) xs i (16 - i) (omega arith) (r .read) (λ j p k. r .zeros j p (omega arith) ∙ none-there s j (omega (arith, h (omega arith)))))
+
+-- of at most eight bytes there is one number, and fifteen zeros
+pub sixteen-one : (s : List ℕ) → length s ≤ 8 → eight s ∷ replicate 15 0 ≡ sixteen s
+unfolding nth
+sixteen-one s h = reading-all (reading-more (eight s) (reading-none s) (omega arith) (ap (λ (l : List ℕ). eight l) (sym (take-all 8 s h)))) (λ _. h)
 
 -- the loop goes on only where a number is left to read
 pub on : (i : ℕ) (b : Bool) → (ltb i 16 && b) ≡ true → i < 16

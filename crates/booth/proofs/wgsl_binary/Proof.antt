@@ -1,33 +1,82 @@
--- `booth::wgsl_binary` meets its contract.
+-- `booth::wgsl_binary` meets its contract: two scalars are the operands in their bytes.
+use Rattle.booth.proofs.Operands.{two-scalars}
 use borrow.Author.Needs.{needs}
 use Rattle.booth.proofs.wgsl_binary.Statement.{statement}
 use Rattle.booth.proofs.wgsl_binary.Tie as tie
 
-operand-requires : tie.Need-operand-requires
-operand-requires c κs = search needs
+one-in-requires : tie.Need-one-in-requires
+one-in-requires c κs = search needs
 
-operand-requires-2 : tie.Need-operand-requires-2
-operand-requires-2 c κs = search needs
+enum-known-lt : tie.Need-enum-known-lt
+enum-known-lt c = search needs
 
-binary-requires : tie.Need-binary-requires
-binary-requires c κs = search needs
+enum-told : tie.Need-enum-told
+enum-told c = search needs
 
-settle-requires : tie.Need-settle-requires
-settle-requires c κs = search needs
+general-requires : tie.Need-general-requires
+general-requires c κs = search needs
 
 same-length : tie.Need-same-length
 same-length c = search needs
 
 returns : tie.Need-returns
-returns c = rw (← c .before .before .before .before .before .before .operand .ensures, ← c .before .before .before .before .before .operand2 .ensures, ← c .before .before .before .binary .ensures) (c .before .before .settle .ensures)
+returns c = search needs
+
+one-in-requires-2 : tie.Need-one-in-requires-2
+one-in-requires-2 c κs = search needs
+
+enum-known-rt : tie.Need-enum-known-rt
+enum-known-rt c = search needs
+
+enum-told-2 : tie.Need-enum-told-2
+enum-told-2 c = search needs
+
+general-requires-2 : tie.Need-general-requires-2
+general-requires-2 c κs = search needs
+
+same-length-2 : tie.Need-same-length-2
+same-length-2 c = search needs
+
+returns-2 : tie.Need-returns-2
+returns-2 c = search needs
+
+binary-scalars-requires : tie.Need-binary-scalars-requires
+binary-scalars-requires c κs = search needs
+
+settle-requires : tie.Need-settle-requires
+settle-requires c κs = search needs
+
+same-length-3 : tie.Need-same-length-3
+same-length-3 c = search needs
+
+returns-3 : tie.Need-returns-3
+returns-3 c =
+    let i = c .before .before .before .before .before .before in
+    let j = i .before .before .before .before in
+    let a = j .before .before .before .before .before .before .args in
+    let l = j .before .before .one-in in
+    let r = i .before .before .one-in2 in
+    let o = c .before .before .before .binary-scalars in
+    let s = two-scalars (a .left .now) (a .right .now) (l .result) (r .result) (l .ensures) (r .ensures) _ _ _ _ (j .lt .given .1) (i .rt .given .1) in
+    rw (← s (a .op) (a .stage) (o .result) (o .ensures)) (c .before .before .settle .ensures)
 
 pub wgsl-binary-spec : {M : Type 1} → statement M
 wgsl-binary-spec =
     tie.close
     (tie.spec
-    operand-requires
-    operand-requires-2
-    binary-requires
-    settle-requires
+    one-in-requires
+    enum-known-lt
+    enum-told
+    general-requires
     same-length
-    returns)
+    returns
+    one-in-requires-2
+    enum-known-rt
+    enum-told-2
+    general-requires-2
+    same-length-2
+    returns-2
+    binary-scalars-requires
+    settle-requires
+    same-length-3
+    returns-3)
