@@ -10,9 +10,8 @@ use lib.Seq.{take-all}
 use borrow.Author.Tests.{eq-eqb, ne-eqb, eqb-true, not-true, not-false}
 use Rattle.scalar.specs.Pattern.{pick}
 use Rattle.shape.specs.declared.Instance.{Instance}
-use Rattle.shape.specs.declared.Outcome.{Outcome}
 use Rattle.shape.specs.Operand.{shapeOk}
-use Rattle.shape.specs.Meaning.{binaryMeaning, aScalar}
+use Rattle.shape.specs.Meaning.{aScalar}
 use Rattle.shape.proofs.Places.{both}
 use Rattle.fields.specs.Field.{eight, sixteen}
 use Rattle.fields.proofs.Sixteen.{sixteen-one}
@@ -83,7 +82,6 @@ scalar-operand b t x h = go (eqb (length b) 11) (headed b) refl refl h
     go true false l k e = absurd (let y : _≡_ {A = ℕ} 0 1 = cc in omega arith)
     go false q l k e = absurd (let y : _≡_ {A = ℕ} 0 1 = cc in omega arith)
 
--- an outcome worked on two scalars is that of the operands in their bytes
-pub two-scalars : (a b : List ℕ) (p q : One) → p ≡ scalarIn a → q ≡ scalarIn b → (t x u y : ℕ) → p ≡ O.Scalar t x → q ≡ O.Scalar u y
-    → (op stage : ℕ) (o : Outcome) → o ≡ binaryMeaning op stage (aScalar t x) (aScalar u y) → o ≡ binaryMeaning op stage (operandIn a) (operandIn b)
-two-scalars a b p q f g t x u y k m op stage o e = rw (scalar-operand a t x (sym f ∙ k), scalar-operand b u y (sym g ∙ m)) e
+-- the same of bytes in which the code has found a scalar
+pub found : (b : List ℕ) (p : One) → p ≡ scalarIn b → (t x : ℕ) → p ≡ O.Scalar t x → operandIn b ≡ aScalar t x
+found b p e t x h = scalar-operand b t x (sym e ∙ h)

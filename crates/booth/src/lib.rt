@@ -30,13 +30,17 @@ fn pack_fold(answer: Folded) -> u64
     }
 }
 
-// A unary operator on an operand's bytes: type, columns, rows, and 8 bytes for each component. The slot takes the value.
+// A unary operator on an operand's bytes: type, columns, rows, and 8 bytes for each component. The slot takes the value. A scalar
+// goes without a record.
 #[no_mangle]
 pub extern "C" fn wgsl_unary(op: u8, stage: u8, operand: &[u8], slot: &mut [u8]) -> u64
     ensures { λ r. ⌜ (r ≡ directAnswer (now (slot .entry)) (unaryMeaning op stage (operandIn (now (operand .entry)))))
         × (now (slot .exit) ≡ directBytes (now (slot .entry)) (unaryMeaning op stage (operandIn (now (operand .entry))))) ⌝ }
 {
-    direct::settle(slot, shape::unary(op, stage, direct::operand(operand)))
+    let One::Scalar(ty, bits) = direct::one_in(operand) else {
+        return direct::settle(slot, shape::unary(op, stage, direct::operand(operand)));
+    };
+    direct::settle(slot, shape::unary_scalar(op, stage, ty, bits))
 }
 
 // A binary operator on the bytes of two operands. The slot takes the value. Two scalars go without records.

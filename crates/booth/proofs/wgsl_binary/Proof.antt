@@ -1,5 +1,5 @@
 -- `booth::wgsl_binary` meets its contract: two scalars are the operands in their bytes.
-use Rattle.booth.proofs.Operands.{two-scalars}
+use Rattle.booth.proofs.Operands.{found}
 use borrow.Author.Needs.{needs}
 use Rattle.booth.proofs.wgsl_binary.Statement.{statement}
 use Rattle.booth.proofs.wgsl_binary.Tie as tie
@@ -57,8 +57,7 @@ returns-3 c =
     let l = j .before .before .one-in in
     let r = i .before .before .one-in2 in
     let o = c .before .before .before .binary-scalars in
-    let s = two-scalars (a .left .now) (a .right .now) (l .result) (r .result) (l .ensures) (r .ensures) _ _ _ _ (j .lt .given .1) (i .rt .given .1) in
-    rw (← s (a .op) (a .stage) (o .result) (o .ensures)) (c .before .before .settle .ensures)
+    rw (found (a .left .now) (l .result) (l .ensures) _ _ (j .lt .given .1), found (a .right .now) (r .result) (r .ensures) _ _ (i .rt .given .1), ← o .ensures) (c .before .before .settle .ensures)
 
 pub wgsl-binary-spec : {M : Type 1} → statement M
 wgsl-binary-spec =
