@@ -4,7 +4,7 @@ use Prim.Native.Nat.{ℕ, zero, suc, _+_, _-_, _*_, _/_, _%_, _^_, _≤_, _<_}
 use mathlib.Core.Path.{_≡_, refl, sym, ap, _∙_, subst}
 use mathlib.Core.Bool.{Bool, true, false, not, cond}
 use mathlib.Core.Logic.{inl, inr}
-use native.Mathlib.Nat.{le-trans, le-of-lt, le-of-eq, le-add-right, mod-lt, mod-eq-of-lt, mod-eq-sub-mod, sub-lt-left-of-lt-add, add-sub-of-le, div-add-mod', mod-mod-of-dvd, dvd-mul-right, zero-add, suc-mul, add-assoc, lt-of-lt-of-le}
+use native.Mathlib.Nat.{le-trans, le-of-lt, le-of-eq, le-add-right, mod-lt, mod-eq-of-lt, mod-eq-sub-mod, sub-lt-left-of-lt-add, add-sub-of-le, zero-add, suc-mul, add-assoc, lt-of-lt-of-le}
 use native.Mathlib.Omega.{arith}
 use lib.Dec.{T, leb, eqb, leb→le, nleb→lt}
 use lib.Pow.{pow-pos, pow-mono}
@@ -13,10 +13,10 @@ use lib.Ieee.{Float, Format, nan, inf, fin, up, down, fits}
 use lib.Ieee.Fits.{round-fits, nan-fits, inf-fits}
 use lib.Ieee.Bits.{ofBits-toBits}
 use borrow.Author.Tests.{eqb-true, eqb-false}
-use Rattle.rounding.specs.Kind.{Kind, double, convert}
+use Rattle.rounding.specs.Kind.{Kind, convert}
 use Rattle.rounding.specs.Bits.{hidden, full, signed, ofBits, ofFields, toBits}
 use Rattle.rounding.proofs.Same.{of, round-is, toBits-is, ofBits-is}
-use Rattle.rounding.proofs.Fields.{read, fields-low, fields-mid, fields-inf}
+use Rattle.rounding.proofs.Fields.{read, field-and-digits, fields-low, fields-mid, fields-inf}
 use Rattle.rounding.proofs.Digits.{packed, twice}
 use Rattle.rounding.proofs.Units.{Sized, bits-odd, inf-bits}
 
@@ -30,9 +30,10 @@ convert-fits f nan = nan-fits f
 convert-fits f (inf s) = inf-fits f s
 convert-fits f (fin s m e) = subst (λ (v : Float). T (fits f v)) (round-is f s (m * up e) (down e)) (round-fits f s (m * up e) (down e))
 
--- from the bits b of an F64 x, and the bits r worked out for them
-pub narrowed : (k : Kind) (x : Float) {b r : ℕ} → T (fits Ieee.binary64 x) → b ≡ toBits double x → r ≡ toBits k (convert k (ofBits double b)) → r ≡ toBits k (convert k x)
-narrowed k x t e q = q ∙ rw e (ap (λ (v : Float). toBits k (convert k v)) (bits-back Ieee.binary64 x t))
+-- from the bits b of an F32 or F64 x, and the bits r worked out for them
+pub narrowed : (f : Format) (k : Kind) (x : Float) {b r : ℕ} → T (fits f x)
+    → b ≡ toBits (of f) x → r ≡ toBits k (convert k (ofBits (of f) b)) → r ≡ toBits k (convert k x)
+narrowed f k x t e q = q ∙ rw e (ap (λ (v : Float). toBits k (convert k v)) (bits-back f x t))
 
 -- ---- a pattern of any kind, read and written
 -- a number below 2c is its sign's bit and the rest
@@ -95,8 +96,7 @@ module _ (k : Kind) (sized : Sized k) (s : Bool) where
 
 pub read-back : (k : Kind) → Sized k → (b : ℕ) → b < 2 * signed k → b % signed k ≤ full k * hidden k → toBits k (ofBits k b) ≡ b
 read-back k sized b h l =
-    let e : b % signed k / hidden k * hidden k + b % hidden k ≡ b % signed k =
-    ap (λ (y : ℕ). b % signed k / hidden k * hidden k + y) (sym (mod-mod-of-dvd (hidden k) b (dvd-mul-right (hidden k) (suc (full k))))) ∙ div-add-mod' (b % signed k) (hidden k) in
+    let e = field-and-digits k b in
     ap (toBits k) (read k b)
     ∙ fields-back k sized (leb (signed k) b) (b % signed k / hidden k) (b % hidden k) (mod-lt b (pow-pos (k .digits - 1))) (le-trans (le-of-eq e) l)
     ∙ ap (λ (y : ℕ). cond (leb (signed k) b) (signed k) 0 + y) e

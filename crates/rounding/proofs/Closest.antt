@@ -1,11 +1,12 @@
 -- `closest n d`, n / d to a whole number: none is nearer, and of two as near it is the even one. Assumes nothing.
-use Prim.Native.Nat.{ℕ, suc, _+_, _-_, _*_, _/_, _%_, _≤_, _<_}
-use mathlib.Core.Path.{_≡_, sym, ap, _∙_}
+use Prim.Native.Nat.{ℕ, suc, _+_, _-_, _*_, _/_, _%_, _≤_, _<_, compare, Ordering, Ordering·lt, Ordering·eq, Ordering·gt}
+use mathlib.Core.Path.{_≡_, refl, sym, ap, _∙_}
 use mathlib.Core.Bool.{Bool, true, false, not}
 use mathlib.Core.Logic.{_⊎_, inl, inr}
-use native.Mathlib.Nat.{eq-or-lt-of-le, eq-zero-or-pos, mod-lt, mul-le-mul-right, suc-mul, div-add-mod'}
+use native.Mathlib.Nat.{eq-or-lt-of-le, eq-zero-or-pos, mod-lt, mul-le-mul-right, suc-mul, div-add-mod', add-suc, mul-add-div-right, mul-add-mod-self-right}
 use native.Mathlib.Omega.{arith}
 use lib.Dec.{T, ltb, ltb→lt, nltb→le}
+use lib.Ieee.{nearest}
 use lib.Ieee.Nearest.{closest}
 use Rattle.rounding.specs.Nearest.{apart}
 use Rattle.rounding.proofs.Cut.{rounds-down, rounds-even, rounds-up}
@@ -92,3 +93,18 @@ module _ (n d : ℕ) (D : 0 < d) where
 
   pub within-half : (2 * n ≤ 2 * (closest n d * d) + d) × (2 * (closest n d * d) ≤ 2 * n + d)
   within-half = half-away n d (n / d) (n % d) (closest n d) (div-add-mod' n d) (mod-lt n D) (side n d D)
+
+-- an even number of whole d's on top of n goes into the answer as it is
+pub closest-above : (e n d : ℕ) → 0 < d → e % 2 ≡ 0 → closest (e * d + n) d ≡ e + closest n d
+closest-above e n d D even =
+    ap (λ (x : ℕ). nearest x (compare ((e * d + n) % d * 2) d)) (mul-add-div-right D e n)
+    ∙ ap (λ (x : ℕ). nearest (e + n / d) (compare (x * 2) d)) (mul-add-mod-self-right e d n)
+    ∙ go (n / d) (compare (n % d * 2) d)
+  where
+    to-even : (e w : ℕ) → e % 2 ≡ 0 → e + w + (e + w) % 2 ≡ e + (w + w % 2)
+    to-even e w h = omega arith
+
+    go : (w : ℕ) (o : Ordering) → nearest (e + w) o ≡ e + nearest w o
+    go w Ordering·lt = refl
+    go w Ordering·eq = to-even e w even
+    go w Ordering·gt = sym (add-suc e w)

@@ -1,7 +1,8 @@
 -- What a sign, an exponent's field and digits are read as, in any format. Assumes nothing.
-use Prim.Native.Nat.{ℕ, zero, suc, _+_, _-_, _/_, _%_}
-use mathlib.Core.Path.{_≡_, refl, ap, _∙_}
+use Prim.Native.Nat.{ℕ, zero, suc, _+_, _-_, _*_, _/_, _%_}
+use mathlib.Core.Path.{_≡_, refl, sym, ap, _∙_}
 use mathlib.Core.Bool.{Bool, cond}
+use native.Mathlib.Nat.{div-add-mod', mod-mod-of-dvd, dvd-mul-right}
 use native.Mathlib.Omega.{arith}
 use lib.Dec.{leb, eqb}
 use lib.Ieee.{nan, inf, odd}
@@ -12,6 +13,12 @@ use Rattle.rounding.specs.Bits.{hidden, full, signed, ofBits, ofFields}
 pub read : (k : Kind) (b : ℕ) → ofBits k b ≡ ofFields k (leb (signed k) b) (b % signed k / hidden k) (b % hidden k)
 unfolding ofBits
 read k b = refl
+
+-- a pattern without its sign is its field and its digits
+pub field-and-digits : (k : Kind) (b : ℕ) → b % signed k / hidden k * hidden k + b % hidden k ≡ b % signed k
+field-and-digits k b =
+    ap (λ (y : ℕ). b % signed k / hidden k * hidden k + y) (sym (mod-mod-of-dvd (hidden k) b (dvd-mul-right (hidden k) (suc (full k)))))
+    ∙ div-add-mod' (b % signed k) (hidden k)
 
 module _ (k : Kind) (s : Bool) where
   pub fields-low : (x t : ℕ) → x ≡ 0 → ofFields k s x t ≡ odd (k .digits) s t 0 (least k)

@@ -14,6 +14,7 @@ pub mod Remainder
 pub mod Width
 pub mod Back
 pub mod Normal
-pub mod FromDouble
+pub mod FromBits
+pub mod Leading
 pub mod Integer
 pub mod Exact

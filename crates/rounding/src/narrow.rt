@@ -2,7 +2,7 @@
 use crate::patterns;
 use crate::places;
 ghost use mathlib.Core.Path.{_≡_};
-ghost use Prim.Native.Nat.{_+_, _*_, _^_, _<_, _≤_, min};
+ghost use Prim.Native.Nat.{_+_, _*_, _%_, _^_, _<_, _≤_, min};
 ghost use mathlib.Core.Bool.{cond};
 ghost use lib.Ieee as Ieee;
 ghost use Rattle.rounding.specs.Kind.{kind, half, single, double, roundTo, convert, ofInteger};
@@ -98,10 +98,31 @@ pub fn f64_to_f32(x: f64) -> f32
     patterns::f32_of_bits(narrow_bits(patterns::f64_bits(x), 24, 127) as u32)
 }
 
-// The bits of x rounded once to F16; every F32 is an F64.
+// The bits of the F32 with the bits b, which is from 2^-14 to below 2^16, rounded once to F16. There
+// both have a leading digit: an F16's bits are the F32's less the difference of the fields, 112,
+// rounded by the difference of the digits, 13. Past the largest F16 they are the infinity's.
+fn leading_bits(b: u32) -> u16
+    requires { ⌜ (0x3880_0000 ≤ b % 0x8000_0000) × (b % 0x8000_0000 < 0x4780_0000) ⌝ }
+    ensures { λ r. ⌜ r ≡ toBits half (convert half (ofBits single b)) ⌝ }
+{
+    let size = (b % 0x8000_0000) as u64;
+    let q = places::round_whole(size - 0x3800_0000, 13);
+    if b >= 0x8000_0000 {
+        return (0x8000 + q) as u16;
+    }
+    q as u16
+}
+
+// The bits of x rounded once to F16: the common values by their bits, the others as an F64, which
+// every F32 is.
 pub fn f32_to_half(x: f32) -> u16
     ensures { λ r. ⌜ r ≡ toBits half (convert half x) ⌝ }
 {
+    let b = patterns::f32_bits(x);
+    let size = b % 0x8000_0000;
+    if (0x3880_0000 <= size) & (size < 0x4780_0000) {
+        return leading_bits(b);
+    }
     f64_to_half(std::num::f32_to_f64_with_nan(x))
 }
 

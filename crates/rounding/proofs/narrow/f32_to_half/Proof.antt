@@ -1,11 +1,30 @@
--- An F32 to F16 by way of F64, which holds it. Assumes nothing.
-use mathlib.Core.Path.{ap, _∙_}
-use lib.Ieee.{Float}
+-- An F32 to F16: by its bits where both have a leading digit, else by way of F64, which holds it. Assumes nothing.
+use Prim.Native.Nat.{_%_, _^_}
+use mathlib.Core.Path.{sym, ap, _∙_, subst}
+use mathlib.Core.Bool.{and-eq-true-iff}
+use lib.Dec.{T, leb, ltb}
+use lib.Ieee.{Float, binary32}
 use borrow.Author.Needs.{needs}
+use borrow.Author.Tests.{leb-true, ltb-true}
 use Rattle.rounding.specs.Kind.{half, convert}
 use Rattle.rounding.specs.Bits.{toBits}
+use Rattle.rounding.proofs.Back.{narrowed}
 use Rattle.rounding.proofs.narrow.f32_to_half.Statement.{statement}
 use Rattle.rounding.proofs.narrow.f32_to_half.Tie as tie
+
+f32-bits-requires : tie.Need-f32-bits-requires
+f32-bits-requires c κs = search needs
+
+leading-bits-requires : tie.Need-leading-bits-requires
+leading-bits-requires c κs =
+    let size = c .before .f32-bits .result % 2 ^ 31 in
+    let h = and-eq-true-iff (leb 0x3880_0000 size) (ltb size 0x4780_0000) .0 (c .if1 .taken) in
+    (leb-true _ size (h .0), ltb-true size _ (h .1))
+
+returns : tie.Need-returns
+returns c =
+    let s = c .before .before .before in
+    narrowed binary32 half (s .args .x) (subst T (sym (s .good .0 .1)) tt) (c .before .before .f32-bits .ensures) (c .leading-bits .ensures)
 
 f32-to-f64-with-nan-requires : tie.Need-f32-to-f64-with-nan-requires
 f32-to-f64-with-nan-requires c κs = search needs
@@ -13,8 +32,16 @@ f32-to-f64-with-nan-requires c κs = search needs
 f64-to-half-requires : tie.Need-f64-to-half-requires
 f64-to-half-requires c κs = search needs
 
-returns : tie.Need-returns
-returns c = c .f64-to-half .ensures ∙ ap (λ (x : Float). toBits half (convert half x)) (c .before .f32-to-f64-with-nan .ensures)
+returns-2 : tie.Need-returns-2
+returns-2 c = c .f64-to-half .ensures ∙ ap (λ (x : Float). toBits half (convert half x)) (c .before .f32-to-f64-with-nan .ensures)
 
 pub f32-to-half-spec : {M : Type 1} → statement M
-f32-to-half-spec = tie.close (tie.spec f32-to-f64-with-nan-requires f64-to-half-requires returns)
+f32-to-half-spec =
+    tie.close
+    (tie.spec
+    f32-bits-requires
+    leading-bits-requires
+    returns
+    f32-to-f64-with-nan-requires
+    f64-to-half-requires
+    returns-2)

@@ -1,7 +1,7 @@
 -- An F64 to an F32, by its bits. Assumes nothing.
 use mathlib.Core.Path.{_≡_, sym, ap, _∙_, subst}
 use lib.Dec.{T}
-use lib.Ieee.{binary32}
+use lib.Ieee.{binary32, binary64}
 use borrow.Author.Needs.{needs}
 use Rattle.rounding.specs.Kind.{single, convert}
 use Rattle.rounding.specs.Bits.{toBits, ofBits}
@@ -12,7 +12,7 @@ use Rattle.rounding.proofs.narrow.f64_to_f32.Statement.{statement}
 use Rattle.rounding.proofs.narrow.f64_to_f32.Tie as tie
 
 bits : (c : tie.After-narrow-bits) → c .narrow-bits .result ≡ toBits single (convert single (c .before .before .args .x))
-bits c = narrowed single (c .before .before .args .x) (subst T (sym (c .before .before .good .0 .1)) tt) (c .before .f64-bits .ensures) (c .narrow-bits .ensures)
+bits c = narrowed binary64 single (c .before .before .args .x) (subst T (sym (c .before .before .good .0 .1)) tt) (c .before .f64-bits .ensures) (c .narrow-bits .ensures)
 
 f64-bits-requires : tie.Need-f64-bits-requires
 f64-bits-requires c κs = search needs

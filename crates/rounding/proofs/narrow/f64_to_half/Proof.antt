@@ -1,6 +1,7 @@
 -- An F64 to the bits of an F16. Assumes nothing.
 use mathlib.Core.Path.{_≡_, sym, subst}
 use lib.Dec.{T}
+use lib.Ieee.{binary64}
 use borrow.Author.Needs.{needs}
 use Rattle.rounding.specs.Kind.{half, convert}
 use Rattle.rounding.specs.Bits.{toBits}
@@ -11,7 +12,7 @@ use Rattle.rounding.proofs.narrow.f64_to_half.Statement.{statement}
 use Rattle.rounding.proofs.narrow.f64_to_half.Tie as tie
 
 bits : (c : tie.After-narrow-bits) → c .narrow-bits .result ≡ toBits half (convert half (c .before .before .args .x))
-bits c = narrowed half (c .before .before .args .x) (subst T (sym (c .before .before .good .0 .1)) tt) (c .before .f64-bits .ensures) (c .narrow-bits .ensures)
+bits c = narrowed binary64 half (c .before .before .args .x) (subst T (sym (c .before .before .good .0 .1)) tt) (c .before .f64-bits .ensures) (c .narrow-bits .ensures)
 
 f64-bits-requires : tie.Need-f64-bits-requires
 f64-bits-requires c κs = search needs

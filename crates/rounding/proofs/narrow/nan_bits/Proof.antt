@@ -5,7 +5,7 @@ use native.Mathlib.Omega.{arith}
 use Rattle.rounding.specs.Kind.{kind}
 use Rattle.rounding.specs.Bits.{full, hidden, toBits}
 use Rattle.rounding.proofs.Normal.{weight-is}
-use Rattle.rounding.proofs.FromDouble.{most-is, weights}
+use Rattle.rounding.proofs.FromBits.{most-is, weights}
 use borrow.Author.Needs.{needs}
 use Rattle.rounding.proofs.narrow.nan_bits.Statement.{statement}
 use Rattle.rounding.proofs.narrow.nan_bits.Tie as tie

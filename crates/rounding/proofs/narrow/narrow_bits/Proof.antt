@@ -4,10 +4,10 @@ use mathlib.Core.Path.{_≡_, sym, ap, _∙_}
 use mathlib.Core.Bool.{cond}
 use native.Mathlib.Omega.{arith}
 use lib.Dec.{leb}
-use Rattle.rounding.specs.Kind.{kind, least}
+use Rattle.rounding.specs.Kind.{kind, double, least}
 use Rattle.rounding.specs.Bits.{signed, full, hidden}
 use Rattle.rounding.proofs.Units.{Sized}
-use Rattle.rounding.proofs.FromDouble.{bits-low, bits-mid, bits-inf, bits-nan, most-small}
+use Rattle.rounding.proofs.FromBits.{bits-low, bits-mid, bits-inf, bits-nan, most-small}
 use borrow.Author.Needs.{needs}
 use Rattle.rounding.proofs.narrow.narrow_bits.Statement.{statement}
 use Rattle.rounding.proofs.narrow.narrow_bits.Tie as tie
@@ -37,13 +37,13 @@ returns c =
     let k = kind (g .digits) (g .reach) in
     c .signed-bits .ensures
     ∙ ap (λ (x : ℕ). cond (leb (2 ^ 63) (g .b)) (signed k) 0 + x) (capped (full k * hidden k) (most-small (g .digits) (g .reach) (s .pre .1) (s .pre .3)))
-    ∙ sym (bits-inf k (g .b) (c .before .before .if1 .taken) (c .before .if2 .taken))
+    ∙ sym (bits-inf double k (g .b) (c .before .before .if1 .taken) (c .before .if2 .taken))
 
 nan-bits-requires : tie.Need-nan-bits-requires
 nan-bits-requires c κs = search needs
 
 returns-2 : tie.Need-returns-2
-returns-2 c = let g = c .before .before .before .args in c .nan-bits .ensures ∙ sym (bits-nan (kind (g .digits) (g .reach)) (g .b) (c .before .before .if1 .taken) (c .before .if2 .left))
+returns-2 c = let g = c .before .before .before .args in c .nan-bits .ensures ∙ sym (bits-nan double (kind (g .digits) (g .reach)) (g .b) (c .before .before .if1 .taken) (c .before .if2 .left))
 
 packed-requires : tie.Need-packed-requires
 packed-requires c κs = search needs
@@ -58,7 +58,7 @@ returns-3 c =
     let k = kind (g .digits) (g .reach) in
     c .signed-bits2 .ensures
     ∙ ap (λ (x : ℕ). cond (leb (2 ^ 63) (g .b)) (signed k) 0 + min x (full k * hidden k)) (c .before .packed .ensures)
-    ∙ sym (bits-low k (sized s) (1076 - g .reach - g .digits) (place s) (g .b) (c .before .before .if3 .taken))
+    ∙ sym (bits-low double k (sized s) (1076 - g .reach - g .digits) (place s) (g .b) (c .before .before .if3 .taken))
 
 add-packed : tie.Need-add-packed
 add-packed c = search needs
@@ -79,7 +79,7 @@ returns-4 c =
     let k = kind (g .digits) (g .reach) in
     c .signed-bits3 .ensures
     ∙ ap (λ (x : ℕ). cond (leb (2 ^ 63) (g .b)) (signed k) 0 + min x (full k * hidden k)) (c .before .packed2 .ensures)
-    ∙ sym (bits-mid k (sized s) (1076 - g .reach - g .digits) (place s) (g .b) (c .before .before .if3 .left) (c .before .before .before .if1 .left))
+    ∙ sym (bits-mid double k (sized s) (1076 - g .reach - g .digits) (place s) (g .b) (c .before .before .if3 .left) (c .before .before .before .if1 .left))
 
 pub narrow-bits-spec : {M : Type 1} → statement M
 narrow-bits-spec =

@@ -8,7 +8,7 @@ use native.Mathlib.Omega.{arith}
 use borrow.Author.Needs.{needs}
 use Rattle.rounding.specs.Kind.{kind}
 use Rattle.rounding.specs.Bits.{signed, full, hidden}
-use Rattle.rounding.proofs.FromDouble.{most-is, sign-at, weights}
+use Rattle.rounding.proofs.FromBits.{most-is, sign-at, weights}
 use Rattle.rounding.proofs.narrow.signed_bits.Statement.{statement}
 use Rattle.rounding.proofs.narrow.signed_bits.Tie as tie
 
