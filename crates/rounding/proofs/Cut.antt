@@ -1,7 +1,7 @@
 -- Rounding a whole number m to a multiple of 2 ^ p: the last bit of m / 2 ^ (p - 1) is the half bit, those above it are kept. Assumes nothing.
 use Prim.Native.Nat.{ℕ, suc, _+_, _-_, _*_, _/_, _%_, _^_, _≤_, _<_, compare, Ordering, Ordering·lt, Ordering·eq, Ordering·gt}
 use mathlib.Core.Path.{_≡_, refl, sym, ap, _∙_, subst}
-use mathlib.Core.Bool.{not}
+use mathlib.Core.Bool.{Bool, true, false, not, _&&_, _||_, cond}
 use native.Mathlib.Nat.{mod-lt, mod-eq-of-lt, lt-of-le-of-lt, div-mul-le-self, div-add-mod', div-one, div-eq-of-lt, zero-mul, one-mul}
 use native.Mathlib.Numerals.{add-one}
 use native.Mathlib.Omega.{arith}
@@ -10,6 +10,7 @@ use lib.Dec.{T, eqb, isLe, isEq, leb→le, nleb→lt, eqb→eq, eqb-refl}
 use lib.Pow.{pow-pos, pow-add, pow-mono, shr-shr, mod-pow-add}
 use lib.Ieee.{nearest}
 use lib.Ieee.Nearest.{closest}
+use borrow.Author.Tests.{eqb-true, eqb-false}
 
 -- ---- what `nearest` takes from a comparison
 abbrev Says : Ordering → ℕ → ℕ → Type 0
@@ -61,9 +62,17 @@ all-cut m p fits h =
     let l : m < 2 ^ p = omega arith in
     sym (rounds-down (m / 2 ^ p) (m % 2 ^ p * 2) (2 ^ p) (omega (arith, mod-eq-of-lt l)) ∙ div-eq-of-lt l)
 
+-- m down to its half bit
+abbrev upper : ℕ → ℕ → ℕ
+upper m p = m / 2 ^ (p - 1)
+
+-- whether to go up from what is kept: the half bit is set, and either more stands below it or what is kept is odd
+abbrev goes : ℕ → ℕ → Bool
+goes m p = eqb (upper m p % 2) 1 && (not (eqb m (upper m p * 2 ^ (p - 1) % 2 ^ 64)) || eqb (upper m p / 2 % 2) 1)
+
 module _ (m p : ℕ) (cut : p ≡ 0 → ⊥) where
   -- what stands above the half bit is the whole part
-  kept : m / 2 ^ (p - 1) / 2 ≡ m / 2 ^ p
+  kept : upper m p / 2 ≡ m / 2 ^ p
   kept = let e : p - 1 + 1 ≡ p = omega arith in shr-shr m (p - 1) 1 ∙ ap (λ (x : ℕ). m / 2 ^ x) e
 
   -- the half bit weighs half of the last place kept
@@ -71,34 +80,61 @@ module _ (m p : ℕ) (cut : p ≡ 0 → ⊥) where
   unit = let e : p ≡ p - 1 + 1 = omega arith in ap (λ (x : ℕ). 2 ^ x) e ∙ pow-add 2 (p - 1) 1
 
   -- what is cut off: the half bit and the rest
-  parts : m % 2 ^ p ≡ m / 2 ^ (p - 1) % 2 * 2 ^ (p - 1) + m % 2 ^ (p - 1)
+  parts : m % 2 ^ p ≡ upper m p % 2 * 2 ^ (p - 1) + m % 2 ^ (p - 1)
   parts = let e : p ≡ 1 + (p - 1) = omega arith in ap (λ (x : ℕ). m % 2 ^ x) e ∙ mod-pow-add m 1 (p - 1)
 
   -- the half bit is not set: less than half is cut off
-  pub half-clear : m / 2 ^ (p - 1) % 2 ≡ 0 → m / 2 ^ (p - 1) / 2 ≡ closest m (2 ^ p)
+  half-clear : upper m p % 2 ≡ 0 → upper m p / 2 ≡ closest m (2 ^ p)
   half-clear h =
       let r : m % 2 ^ p ≡ 0 * 2 ^ (p - 1) + m % 2 ^ (p - 1) = parts ∙ ap (λ (x : ℕ). x * 2 ^ (p - 1) + m % 2 ^ (p - 1)) h in
       kept ∙ sym (rounds-down (m / 2 ^ p) (m % 2 ^ p * 2) (2 ^ p) (omega (arith, unit, zero-mul (2 ^ (p - 1)), mod-lt m (pow-pos (p - 1)))))
 
-  module _ (half : m / 2 ^ (p - 1) % 2 ≡ 0 → ⊥) (fits : m < 2 ^ 64) where
+  module _ (half : upper m p % 2 ≡ 0 → ⊥) (fits : m < 2 ^ 64) where
     -- what is cut off, the half bit being set
     set : m % 2 ^ p ≡ 2 ^ (p - 1) + m % 2 ^ (p - 1)
     set =
-        let h : m / 2 ^ (p - 1) % 2 ≡ 1 = omega arith in
+        let h : upper m p % 2 ≡ 1 = omega arith in
         parts ∙ ap (λ (x : ℕ). x * 2 ^ (p - 1) + m % 2 ^ (p - 1)) h ∙ ap (λ (x : ℕ). x + m % 2 ^ (p - 1)) (one-mul (2 ^ (p - 1)))
 
     -- the bits down to the half bit, moved back to their places, still fit
-    back : m / 2 ^ (p - 1) * 2 ^ (p - 1) % 2 ^ 64 ≡ m / 2 ^ (p - 1) * 2 ^ (p - 1)
+    back : upper m p * 2 ^ (p - 1) % 2 ^ 64 ≡ upper m p * 2 ^ (p - 1)
     back = mod-eq-of-lt (lt-of-le-of-lt (div-mul-le-self m (2 ^ (p - 1))) fits)
 
     -- the half bit is set and nothing below it: a tie
-    pub half-alone : m ≡ m / 2 ^ (p - 1) * 2 ^ (p - 1) % 2 ^ 64 → m / 2 ^ (p - 1) / 2 + m / 2 ^ (p - 1) / 2 % 2 ≡ closest m (2 ^ p)
+    half-alone : m ≡ upper m p * 2 ^ (p - 1) % 2 ^ 64 → upper m p / 2 + upper m p / 2 % 2 ≡ closest m (2 ^ p)
     half-alone h =
         ap (λ (x : ℕ). x + x % 2) kept
         ∙ sym (rounds-even (m / 2 ^ p) (m % 2 ^ p * 2) (2 ^ p) (omega (arith, unit, set, back, div-add-mod' m (2 ^ (p - 1)))))
 
     -- the half bit is set and more below it: more than half is cut off
-    pub half-and-more : (m ≡ m / 2 ^ (p - 1) * 2 ^ (p - 1) % 2 ^ 64 → ⊥) → m / 2 ^ (p - 1) / 2 + 1 ≡ closest m (2 ^ p)
+    half-and-more : (m ≡ upper m p * 2 ^ (p - 1) % 2 ^ 64 → ⊥) → upper m p / 2 + 1 ≡ closest m (2 ^ p)
     half-and-more h =
         ap (λ (x : ℕ). x + 1) kept ∙ add-one (m / 2 ^ p)
         ∙ sym (rounds-up (m / 2 ^ p) (m % 2 ^ p * 2) (2 ^ p) (omega (arith, unit, set, back, div-add-mod' m (2 ^ (p - 1)))))
+
+  -- that test decides, by the three cases above
+  decided : m < 2 ^ 64 → cond (goes m p) (upper m p / 2 + 1) (upper m p / 2) ≡ closest m (2 ^ p)
+  decided fits = go (eqb (upper m p % 2) 1) (eqb m (upper m p * 2 ^ (p - 1) % 2 ^ 64)) (eqb (upper m p / 2 % 2) 1) refl refl refl
+    where
+      clear : (u : ℕ) → (u % 2 ≡ 1 → ⊥) → u % 2 ≡ 0
+      clear u h = omega arith
+
+      not-clear : (u : ℕ) → u % 2 ≡ 1 → u % 2 ≡ 0 → ⊥
+      not-clear u h z = omega arith
+
+      tie : (o : Bool) → eqb (upper m p / 2 % 2) 1 ≡ o → cond o (upper m p / 2 + 1) (upper m p / 2) ≡ upper m p / 2 + upper m p / 2 % 2
+      tie true g = omega (arith, eqb-true (upper m p / 2 % 2) 1 g)
+      tie false g = omega (arith, clear (upper m p / 2) (eqb-false (upper m p / 2 % 2) 1 g))
+
+      go : (h a o : Bool) → eqb (upper m p % 2) 1 ≡ h → eqb m (upper m p * 2 ^ (p - 1) % 2 ^ 64) ≡ a → eqb (upper m p / 2 % 2) 1 ≡ o
+          → cond (h && (not a || o)) (upper m p / 2 + 1) (upper m p / 2) ≡ closest m (2 ^ p)
+      go false a o e f g = half-clear (clear (upper m p) (eqb-false (upper m p % 2) 1 e))
+      go true false o e f g = half-and-more (not-clear (upper m p) (eqb-true (upper m p % 2) 1 e)) fits (eqb-false m (upper m p * 2 ^ (p - 1) % 2 ^ 64) f)
+      go true true o e f g = tie o g ∙ half-alone (not-clear (upper m p) (eqb-true (upper m p % 2) 1 e)) fits (eqb-true m (upper m p * 2 ^ (p - 1) % 2 ^ 64) f)
+
+  -- so: one more where it holds, and what is kept where it does not
+  pub goes-up : m < 2 ^ 64 → goes m p ≡ true → upper m p / 2 + 1 ≡ closest m (2 ^ p)
+  goes-up fits e = ap (λ (b : Bool). cond b (upper m p / 2 + 1) (upper m p / 2)) (sym e) ∙ decided fits
+
+  pub stays : m < 2 ^ 64 → goes m p ≡ false → upper m p / 2 ≡ closest m (2 ^ p)
+  stays fits e = ap (λ (b : Bool). cond b (upper m p / 2 + 1) (upper m p / 2)) (sym e) ∙ decided fits

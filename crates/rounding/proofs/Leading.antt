@@ -47,6 +47,7 @@ module _ (p d t w : ℕ) (two : 2 ≤ p) (weight : w ≡ 2 ^ (p - 1) * 2 ^ d) (b
           let e : j * 2 ^ (p - 1) ≡ 2 * (j * 2 ^ (p - 1 - 1)) = ap (λ (x : ℕ). j * x) (twice (p - 1) some) ∙ mul-left-comm j 2 (2 ^ (p - 1 - 1)) in
           omega arith
 
+  -- of a field of j + g + 1 in the wider kind, g come off, and what is left is rounded as one number
   packs : (j g : ℕ) → pack p ((w + t) * 2 ^ (j + g)) (2 ^ (g + d)) ≡ closest (j * w + (w + t)) (2 ^ d)
   packs j g =
       pack-as p ((w + t) * 2 ^ (j + g)) (2 ^ (g + d)) (w + t) d j P (pow-pos (g + d))
@@ -65,12 +66,15 @@ module _ (p d t w : ℕ) (two : 2 ≤ p) (weight : w ≡ 2 ^ (p - 1) * 2 ^ d) (b
 
 -- ---- over the kinds: d digits cut off, and fields that differ by g
 module _ (source k : Kind) (sized : Sized k) (d g : ℕ) (digits : k .digits + d ≡ source .digits) (reaches : k .reach + g ≡ source .reach) where
+  -- the wider kind's smallest value is 2 ^ (g + d) times as small
   place : least k + (g + d) ≡ least source
   place = omega (arith, sized .two)
 
+  -- and its weight of a field 2 ^ d times as large
   weight-of : hidden source ≡ hidden k * 2 ^ d
   weight-of = let e : source .digits - 1 ≡ k .digits - 1 + d = omega (arith, sized .two) in ap (λ (x : ℕ). 2 ^ x) e ∙ pow-add 2 (k .digits - 1) d
 
+  -- a field above g has a leading digit in both kinds; up to g + 2 * reach what is rounded is at most the infinity's bits
   pub bits-leading : (b : ℕ) → g < b % signed source / hidden source → b % signed source / hidden source ≤ g + 2 * k .reach
       → toBits k (convert k (ofBits source b)) ≡ cond (leb (signed source) b) (signed k) 0 + closest (b % signed source - g * hidden source) (2 ^ d)
   bits-leading b lo hi =

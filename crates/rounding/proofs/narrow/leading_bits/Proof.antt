@@ -26,9 +26,11 @@ bits c =
     let b = c .before .args .b in
     ap (λ (x : ℕ). cond (leb (2 ^ 31) b) (2 ^ 15) 0 + x) (rounded c) ∙ sym (bits-leading single half half-sized 13 112 refl refl b (omega arith) (omega arith))
 
+-- the sign's bit is there below 0
 negative : (c : tie.Then1) → 2 ^ 15 + c .before .round-whole .result ≡ toBits half (convert half (ofBits single (c .before .before .args .b)))
 negative c = ap (λ (s : Bool). cond s (2 ^ 15) 0 + c .before .round-whole .result) (sym (le-leb (2 ^ 31) (c .before .before .args .b) (c .if1 .taken))) ∙ bits (c .before)
 
+-- and only there
 other : (c : tie.Else1) → c .before .round-whole .result ≡ toBits half (convert half (ofBits single (c .before .before .args .b)))
 other c =
     let q = c .before .round-whole .result in

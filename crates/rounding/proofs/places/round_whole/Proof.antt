@@ -5,7 +5,7 @@ use native.Mathlib.Nat.{div-le-self}
 use native.Mathlib.Omega.{arith}
 use lib.Ieee.Nearest.{closest}
 use borrow.Author.Needs.{needs}
-use Rattle.rounding.proofs.Cut.{none-cut, all-cut, half-clear, half-alone, half-and-more}
+use Rattle.rounding.proofs.Cut.{none-cut, all-cut, goes-up, stays}
 use Rattle.rounding.proofs.places.round_whole.Statement.{statement}
 use Rattle.rounding.proofs.places.round_whole.Tie as tie
 
@@ -21,41 +21,19 @@ sub-below c = search needs
 shr-upper : tie.Need-shr-upper
 shr-upper c = search needs
 
-returns-3 : tie.Need-returns-3
-returns-3 c = let s = c .before .before .before in half-clear (s .args .m) (s .args .places) (c .before .before .if1 .left) (c .if3 .taken)
-
-shl-if4 : tie.Need-shl-if4
-shl-if4 c = search needs
+shl-alone : tie.Need-shl-alone
+shl-alone c = search needs
 
 add-result : tie.Need-add-result
-add-result c = let s = c .before .before .before .before in omega (arith, s .fits .m .fits, div-le-self (s .args .m) (2 ^ (s .args .places - 1)))
+add-result c = let s = c .before .before .before in omega (arith, s .fits .m .fits, div-le-self (s .args .m) (2 ^ (s .args .places - 1)))
 
-add-result-2 : tie.Need-add-result-2
-add-result-2 c = let s = c .before .before .before .before in omega (arith, s .fits .m .fits, div-le-self (s .args .m) (2 ^ (s .args .places - 1)))
+returns-3 : tie.Need-returns-3
+returns-3 c = let s = c .before .before .before in goes-up (s .args .m) (s .args .places) (c .before .before .if1 .left) (s .fits .m .fits) (c .if3 .taken)
 
 returns-4 : tie.Need-returns-4
-returns-4 c =
-    let b = c .before .before .before in
-    let s = b .before in
-    half-alone (s .args .m) (s .args .places) (b .if1 .left) (c .before .if3 .left) (s .fits .m .fits) (c .if4 .taken)
-
-returns-5 : tie.Need-returns-5
-returns-5 c =
-    let b = c .before .before .before in
-    let s = b .before in
-    half-and-more (s .args .m) (s .args .places) (b .if1 .left) (c .before .if3 .left) (s .fits .m .fits) (c .if4 .left)
+returns-4 c = let s = c .before .before .before in stays (s .args .m) (s .args .places) (c .before .before .if1 .left) (s .fits .m .fits) (c .if3 .left)
 
 pub round-whole-spec : {M : Type 1} → statement M
 round-whole-spec =
     tie.close
-    (tie.spec
-    returns
-    returns-2
-    sub-below
-    shr-upper
-    returns-3
-    shl-if4
-    add-result
-    add-result-2
-    returns-4
-    returns-5)
+    (tie.spec returns returns-2 sub-below shr-upper shl-alone add-result returns-3 returns-4)
