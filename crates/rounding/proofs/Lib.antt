@@ -17,4 +17,6 @@ pub mod Normal
 pub mod FromBits
 pub mod Leading
 pub mod Integer
+pub mod Range
+pub mod Wider
 pub mod Exact

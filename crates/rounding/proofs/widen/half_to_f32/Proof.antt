@@ -1,73 +1,54 @@
 -- The value of an F16, by its fields. Assumes nothing.
-use Prim.Native.Nat.{_/_, _%_, _^_}
-use mathlib.Core.Path.{_≡_, refl, sym, ap, _∙_}
-use mathlib.Core.Bool.{true, false}
+use Prim.Native.Nat.{ℕ, _/_, _%_, _^_}
+use mathlib.Core.Path.{_≡_, sym, ap, _∙_}
+use native.Mathlib.Omega.{arith}
 use lib.Dec.{leb}
 use lib.Ieee as Ieee
-use lib.Ieee.{binary32, inf, nan}
+use lib.Ieee.{binary32, inf, odd}
 use borrow.Author.Needs.{needs}
 use Rattle.rounding.specs.Kind.{half}
 use Rattle.rounding.specs.Bits.{ofBits}
-use Rattle.rounding.proofs.Fields.{read, fields-low, fields-mid, fields-inf, fields-nan}
+use Rattle.rounding.proofs.Nan.{zero-by-zero}
+use Rattle.rounding.proofs.Range.{inside, beyond}
+use Rattle.rounding.proofs.Fields.{read, fields-low, fields-inf, fields-nan}
 use Rattle.rounding.proofs.widen.half_to_f32.Statement.{statement}
 use Rattle.rounding.proofs.widen.half_to_f32.Tie as tie
 
-minus-inf : Ieee.div binary32 (Ieee.neg (Ieee.ofBits binary32 1065353216)) (Ieee.ofBits binary32 0) ≡ inf true
-unfolding Ieee.div Ieee.neg Ieee.ofBits
-minus-inf = refl
+infinite : (c : tie.Else3) → ofBits half (c .before .before .before .args .h) ≡ inf (leb (2 ^ 15) (c .before .before .before .args .h))
+infinite c =
+    let h = c .before .before .before .args .h in
+    let top = beyond _ (h % 2 ^ 15) _ (c .before .before .if1 .left) (omega arith) in
+    read half h ∙ fields-inf half (leb (2 ^ 15) h) (h % 2 ^ 15 / 2 ^ 10) (h % 2 ^ 10) (omega (arith, top)) (omega (arith, top))
 
-plus-inf : Ieee.div binary32 (Ieee.ofBits binary32 1065353216) (Ieee.ofBits binary32 0) ≡ inf false
-unfolding Ieee.div Ieee.ofBits
-plus-inf = refl
-
-no-number : Ieee.div binary32 (Ieee.ofBits binary32 0) (Ieee.ofBits binary32 0) ≡ nan
-unfolding Ieee.div Ieee.ofBits
-no-number = refl
-
-infinite : (c : tie.Then2) → ofBits half (c .before .before .args .h) ≡ inf (leb (2 ^ 15) (c .before .before .args .h))
-infinite c = let h = c .before .before .args .h in read half h ∙ fields-inf half (leb (2 ^ 15) h) (h % 2 ^ 15 / 2 ^ 10) (h % 2 ^ 10) (c .before .if1 .taken) (c .if2 .taken)
+normal-requires : tie.Need-normal-requires
+normal-requires c κs = let w = inside _ (c .before .args .h % 2 ^ 15) _ (c .if1 .taken) in omega (arith, w .0, w .1)
 
 returns : tie.Need-returns
-returns c = minus-inf ∙ ap inf (sym (c .if3 .taken)) ∙ sym (infinite (c .before))
+returns c = search needs
+
+small-requires : tie.Need-small-requires
+small-requires c κs = search needs
 
 returns-2 : tie.Need-returns-2
-returns-2 c = plus-inf ∙ ap inf (sym (c .if3 .left)) ∙ sym (infinite (c .before))
+returns-2 c =
+    let h = c .before .before .before .args .h in
+    let low : h % 2 ^ 15 ≡ h % 2 ^ 10 = omega arith in
+    c .small .ensures ∙ ap (λ (x : ℕ). odd 11 (leb (2 ^ 15) h) x 0 24) low ∙ sym (read half h ∙ fields-low half (leb (2 ^ 15) h) (h % 2 ^ 15 / 2 ^ 10) (h % 2 ^ 10) (omega arith))
 
 returns-3 : tie.Need-returns-3
-returns-3 c = let h = c .before .before .args .h in no-number ∙ sym (read half h ∙ fields-nan half (leb (2 ^ 15) h) (h % 2 ^ 15 / 2 ^ 10) (h % 2 ^ 10) (c .before .if1 .taken) (c .if2 .left))
-
-scaled-requires : tie.Need-scaled-requires
-scaled-requires c κs = search needs
+returns-3 c =
+    let h = c .before .before .before .args .h in
+    zero-by-zero binary32 ∙ sym (read half h ∙ fields-nan half (leb (2 ^ 15) h) (h % 2 ^ 15 / 2 ^ 10) (h % 2 ^ 10) (omega arith) (λ z. omega arith))
 
 returns-4 : tie.Need-returns-4
-returns-4 c = let h = c .before .before .before .args .h in c .scaled .ensures ∙ sym (read half h ∙ fields-low half (leb (2 ^ 15) h) (h % 2 ^ 15 / 2 ^ 10) (h % 2 ^ 10) (c .before .if4 .taken))
-
-add-scaled : tie.Need-add-scaled
-add-scaled c = search needs
-
-sub-scaled : tie.Need-sub-scaled
-sub-scaled c = search needs
-
-cast-scaled : tie.Need-cast-scaled
-cast-scaled c = search needs
-
-scaled-requires-2 : tie.Need-scaled-requires-2
-scaled-requires-2 c κs = search needs
+unfolding Ieee.div Ieee.neg Ieee.ofBits
+returns-4 c = ap inf (sym (c .if4 .taken)) ∙ sym (infinite (c .before))
 
 returns-5 : tie.Need-returns-5
-returns-5 c = let h = c .before .before .before .args .h in c .scaled2 .ensures ∙ sym (read half h ∙ fields-mid half (leb (2 ^ 15) h) (h % 2 ^ 15 / 2 ^ 10) (h % 2 ^ 10) (c .before .if4 .left) (c .before .before .if1 .left))
+unfolding Ieee.div Ieee.ofBits
+returns-5 c = ap inf (sym (c .if4 .left)) ∙ sym (infinite (c .before))
 
 pub half-to-f32-spec : {M : Type 1} → statement M
 half-to-f32-spec =
     tie.close
-    (tie.spec
-    returns
-    returns-2
-    returns-3
-    scaled-requires
-    returns-4
-    add-scaled
-    sub-scaled
-    cast-scaled
-    scaled-requires-2
-    returns-5)
+    (tie.spec normal-requires returns small-requires returns-2 returns-3 returns-4 returns-5)
