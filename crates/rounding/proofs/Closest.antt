@@ -3,7 +3,7 @@ use Prim.Native.Nat.{ℕ, suc, _+_, _-_, _*_, _/_, _%_, _≤_, _<_, compare, Ord
 use mathlib.Core.Path.{_≡_, refl, sym, ap, _∙_}
 use mathlib.Core.Bool.{Bool, true, false, not}
 use mathlib.Core.Logic.{_⊎_, inl, inr}
-use native.Mathlib.Nat.{eq-or-lt-of-le, eq-zero-or-pos, mod-lt, mul-le-mul-right, suc-mul, div-add-mod', add-suc, mul-add-div-right, mul-add-mod-self-right}
+use native.Mathlib.Nat.{eq-or-lt-of-le, eq-zero-or-pos, mod-lt, div-eq-of-lt, div-eq-of-lt-le, mul-le-mul-right, suc-mul, div-add-mod', add-suc, mul-add-div-right, mul-add-mod-self-right}
 use native.Mathlib.Omega.{arith}
 use lib.Dec.{T, ltb, ltb→lt, nltb→le}
 use lib.Ieee.{nearest}
@@ -108,3 +108,32 @@ closest-above e n d D even =
     go w Ordering·lt = refl
     go w Ordering·eq = to-even e w even
     go w Ordering·gt = sym (add-suc e w)
+
+-- half of 2 * h less one, and one more where the quotient is odd, carry over exactly where n goes up
+pub closest-added : (n h : ℕ) → 0 < h → closest n (2 * h) ≡ (n + (h - 1) + n / (2 * h) % 2) / (2 * h)
+closest-added n h H =
+    let d = 2 * h in
+    let D : 0 < d = omega arith in
+    let f = n / d in
+    let r = n % d in
+    let e : n + (h - 1) + f % 2 ≡ f * d + (r + (h - 1) + f % 2) = omega (arith, div-add-mod' n d) in
+    go f r (closest n d) (mod-lt n D) (side n d D) ∙ sym (ap (λ (x : ℕ). x / d) e ∙ mul-add-div-right D f (r + (h - 1) + f % 2))
+  where
+    -- what is added to r carries over or not
+    none : (f x d : ℕ) → x < d → f ≡ f + x / d
+    none f x d l = omega (arith, div-eq-of-lt l)
+
+    one : (f x d : ℕ) → 0 < d → d ≤ x → x < d + d → suc f ≡ f + x / d
+    one f x d D l u = let e : x / d ≡ 1 = div-eq-of-lt-le d (omega arith) (omega arith) in omega arith
+
+    go : (f r q : ℕ) → r < 2 * h → Side f r (2 * h) q → q ≡ f + (r + (h - 1) + f % 2) / (2 * h)
+    go f r q l (inl (s, b, t)) =
+        elim (eq-or-lt-of-le b) [
+          | inl e ↦ s ∙ none f (r + (h - 1) + f % 2) (2 * h) (omega (arith, t e))
+          | inr e ↦ s ∙ none f (r + (h - 1) + f % 2) (2 * h) (omega arith)
+        ]
+    go f r q l (inr (s, b, t)) =
+        elim (eq-or-lt-of-le b) [
+          | inl e ↦ s ∙ one f (r + (h - 1) + f % 2) (2 * h) (omega arith) (omega (arith, t (sym e))) (omega arith)
+          | inr e ↦ s ∙ one f (r + (h - 1) + f % 2) (2 * h) (omega arith) (omega arith) (omega arith)
+        ]

@@ -3,6 +3,7 @@
 use Prim.Native.Nat.{ℕ, zero, suc, _+_, _-_, _*_, _/_, _%_, _^_, _≤_, _<_}
 use mathlib.Core.Path.{_≡_, refl, sym, ap, _∙_}
 use mathlib.Core.Bool.{Bool, true, false, not, cond}
+use mathlib.Core.Logic.{inl, inr}
 use native.Mathlib.Nat.{add-zero, add-suc, add-mul, mul-assoc, mul-one, mul-div-cancel, mul-mod-left, div-div-eq-div-mul, pow-suc, pow-succ'}
 use native.Mathlib.Omega.{arith}
 use lib.IntN.{ℤ, pos, negsuc}
@@ -17,6 +18,7 @@ use Rattle.rounding.specs.Bits.{hidden, full, signed, ofFields, ofBits}
 use Rattle.rounding.proofs.Same.{ofBits-is}
 use Rattle.rounding.proofs.Fields.{read, fields-mid}
 use Rattle.rounding.proofs.Units.{Sized, half-sized}
+use Rattle.rounding.proofs.Closest.{le-or-lt}
 
 -- ---- a power of two moves from the number to the unit
 minus-shift : (a b c : ℕ) → minus (a + c) (b + c) ≡ minus a b
@@ -127,8 +129,9 @@ module _ (h b : ℕ) (low : hidden half ≤ h % signed half) (high : h % signed 
       ∙ fields-wider half half-sized 13 112 (leb (signed half) h) (h % signed half / hidden half) (h % hidden half) (omega arith) (omega arith)
       ∙ sym (read half h)
 
-  pub negative-half : signed half ≤ h → signed single ≤ b → Ieee.ofBits binary32 b ≡ ofBits half h
-  negative-half x y = same-sign (le-leb (signed single) b y ∙ sym (le-leb (signed half) h x))
-
-  pub positive-half : h < signed half → b < signed single → Ieee.ofBits binary32 b ≡ ofBits half h
-  positive-half x y = same-sign (lt-leb (signed single) b y ∙ sym (lt-leb (signed half) h x))
+  pub same-half : b / signed single ≡ h / signed half → Ieee.ofBits binary32 b ≡ ofBits half h
+  same-half e =
+      elim (le-or-lt (signed half) h) [
+        | inl x ↦ same-sign (le-leb (signed single) b (omega arith) ∙ sym (le-leb (signed half) h x))
+        | inr x ↦ same-sign (lt-leb (signed single) b (omega arith) ∙ sym (lt-leb (signed half) h x))
+      ]

@@ -100,17 +100,15 @@ pub fn f64_to_f32(x: f64) -> f32
 
 // The bits of the F32 with the bits b, which is from 2^-14 to below 2^16, rounded once to F16. There
 // both have a leading digit: an F16's bits are the F32's less the difference of the fields, 112,
-// rounded by the difference of the digits, 13. Past the largest F16 they are the infinity's.
+// rounded by the difference of the digits, 13. Past the largest F16 they are the infinity's. Half a
+// step less one, and one more where the number kept is odd, carry over exactly where it goes up.
 fn leading_bits(b: u32) -> u16
     requires { ⌜ (0x3880_0000 ≤ b % 0x8000_0000) × (b % 0x8000_0000 < 0x4780_0000) ⌝ }
     ensures { λ r. ⌜ r ≡ toBits half (convert half (ofBits single b)) ⌝ }
 {
-    let size = (b % 0x8000_0000) as u64;
-    let q = places::round_whole(size - 0x3800_0000, 13);
-    if b >= 0x8000_0000 {
-        return (0x8000 + q) as u16;
-    }
-    q as u16
+    let m = b % 0x8000_0000 - 0x3800_0000;
+    let q = (m + 0xfff + m / 0x2000 % 2) / 0x2000;
+    (b / 0x8000_0000 * 0x8000 + q) as u16
 }
 
 // The bits of x rounded once to F16: the common values by their bits, the others as an F64, which

@@ -20,11 +20,9 @@ fn normal(h: u16) -> f32
     requires { ⌜ (hidden half ≤ h % signed half) × (h % signed half < full half * hidden half) ⌝ }
     ensures { λ r. ⌜ r ≡ ofBits half h ⌝ }
 {
+    let sign = ((h / 0x8000) as u32) * 0x8000_0000;
     let b = ((h % 0x8000) as u32) * 0x2000 + 0x3800_0000;
-    if h >= 0x8000 {
-        return f32::from_bits(0x8000_0000 + b);
-    }
-    f32::from_bits(b)
+    f32::from_bits(sign + b)
 }
 
 // The value of the F16 with the bits h.
