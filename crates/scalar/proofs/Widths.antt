@@ -8,7 +8,9 @@ use borrow.Author.Tests.{ltb-true, not-false, not-true}
 use mir.Syntax.{w16, w32}
 use mir.Val.{Fits}
 use Rattle.scalar.specs.declared.Found.{Found}
-use Rattle.scalar.specs.declared.Found.the-variants.{Nothing}
+use Rattle.scalar.specs.declared.Found.the-variants.{Value, Nothing}
+use Rattle.scalar.specs.declared.Pair.the-variants as P
+use Rattle.scalar.specs.Pair.{bothOf}
 use Rattle.scalar.specs.Pattern.{pick, properOf, keptOf}
 use Rattle.scalar.specs.Scalar.{scalarOf, scalars}
 use Rattle.scalar.proofs.Choice.{picked, passed, Misses, past-all}
@@ -39,6 +41,22 @@ module _ {g : Bool} (ty b : ℕ) (e : g ≡ properOf ty b) where
 
   pub f16-width : not g ≡ false → ty ≡ 6 → Fits w16 b
   f16-width h t = record { fits = ltb-true b 65536 (is-proper 6 h t) }
+
+-- two patterns of one type: none where one is not proper
+pub none-left : (ty l r : ℕ) → Nothing ≡ scalarOf ty l → P.None ≡ bothOf (scalarOf ty l) (scalarOf ty r)
+none-left ty l r e = ap (λ (f : Found). bothOf f (scalarOf ty r)) e
+
+pub none-right : (ty l r : ℕ) → Nothing ≡ scalarOf ty r → P.None ≡ bothOf (scalarOf ty l) (scalarOf ty r)
+none-right ty l r e = none (scalarOf ty l) ∙ ap (bothOf (scalarOf ty l)) e
+  where
+    none : (f : Found) → P.None ≡ bothOf f Nothing
+    none (Value s) = refl
+    none Nothing = refl
+
+-- and else the pair of their scalars
+pub well-paired : {g h : Bool} (ty l r : ℕ) → g ≡ properOf ty l → not g ≡ false → h ≡ properOf ty r → not h ≡ false
+    → (x y : Found) → x ≡ getD (scalars l) ty Nothing → y ≡ getD (scalars r) ty Nothing → bothOf x y ≡ bothOf (scalarOf ty l) (scalarOf ty r)
+well-paired ty l r e a k b x y p q = λ i. bothOf (well-formed ty l e a p i) (well-formed ty r k b q i)
 
 -- a code beyond the types'
 pub no-type : (ty b : ℕ) → Misses 0 7 ty → Nothing ≡ scalarOf ty b

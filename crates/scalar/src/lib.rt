@@ -262,11 +262,11 @@ pub fn binary_step(op: u8, stage: u8, ty: u8, l: u64, r: u64) -> Step
     ensures { λ a. ⌜ a ≡ stepOf op stage ty l r ⌝ }
 {
     let at = stage_of(stage);
-    let x = pattern::scalar_of(ty, l);
     if 17 <= op {
+        let x = pattern::scalar_of(ty, l);
         return step_of(shift_op(op, at, x, pattern::scalar_of(4, r)));
     }
-    step_of(binary_op(op, at, common::both(x, pattern::scalar_of(ty, r))))
+    step_of(binary_op(op, at, pattern::pair_of(ty, l, r)))
 }
 
 // The product of two patterns of one type, and the sum with it.

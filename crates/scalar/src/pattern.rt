@@ -1,8 +1,10 @@
-// The bits of a scalar, and the scalar of a type and bits.
+// The bits of a scalar, and the scalar of a type and bits, or two of them.
 use crate::Found;
+use crate::Pair;
 use crate::Scalar;
 use integer::patterns;
 ghost use mathlib.Core.Path.{_≡_};
+ghost use Rattle.scalar.specs.Pair.{bothOf};
 ghost use Rattle.scalar.specs.Pattern.{keptOf};
 ghost use Rattle.scalar.specs.Scalar.{bitsOf, scalarOf};
 
@@ -47,5 +49,33 @@ pub fn scalar_of(ty: u8, bits: u64) -> Found
         5 => Found::Value(Scalar::F32(rounding::f32_of_bits(bits as u32))),
         6 => Found::Value(Scalar::F16(kept_half(bits as u16))),
         _ => Found::Nothing,
+    }
+}
+
+// The pair of two patterns of one type, if both are proper.
+pub(crate) fn pair_of(ty: u8, l: u64, r: u64) -> Pair
+    ensures { λ p. ⌜ p ≡ bothOf (scalarOf ty l) (scalarOf ty r) ⌝ }
+{
+    if !crate::proper(ty, l) {
+        return Pair::None;
+    }
+    if !crate::proper(ty, r) {
+        return Pair::None;
+    }
+    match ty {
+        0 => Pair::Bool(l == 1, r == 1),
+        1 => Pair::AbstractInt(patterns::i64_of_bits(l), patterns::i64_of_bits(r)),
+        2 => Pair::AbstractFloat(rounding::f64_of_bits(l), rounding::f64_of_bits(r)),
+        3 => Pair::I32(
+            patterns::i32_of_bits(l as u32),
+            patterns::i32_of_bits(r as u32),
+        ),
+        4 => Pair::U32(l as u32, r as u32),
+        5 => Pair::F32(
+            rounding::f32_of_bits(l as u32),
+            rounding::f32_of_bits(r as u32),
+        ),
+        6 => Pair::F16(kept_half(l as u16), kept_half(r as u16)),
+        _ => Pair::None,
     }
 }
