@@ -5,6 +5,7 @@ pub mod Relations
 pub mod Range
 pub mod Pairing
 pub mod Widths
+pub mod Rights
 pub mod Negated
 pub mod Counted
 pub mod Called

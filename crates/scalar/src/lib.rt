@@ -123,10 +123,16 @@ fn is_finite(s: Scalar) -> bool
 pub fn proper(ty: u8, bits: u64) -> bool
     ensures { λ r. ⌜ r ≡ properOf ty bits ⌝ }
 {
-    (ty == 0) & (bits < 2)
-        | (1 <= ty) & (ty <= 2)
-        | (3 <= ty) & (ty <= 5) & (bits < 0x1_0000_0000)
-        | (ty == 6) & (bits < 0x1_0000)
+    match ty {
+        0 => bits < 2,
+        1 => true,
+        2 => true,
+        3 => bits < 0x1_0000_0000,
+        4 => bits < 0x1_0000_0000,
+        5 => bits < 0x1_0000_0000,
+        6 => bits < 0x1_0000,
+        _ => false,
+    }
 }
 
 // The pattern as it is kept: every NaN of a type as one.
@@ -153,12 +159,22 @@ pub fn kept(ty: u8, bits: u64) -> u64
 pub fn right(op: u8, ty: u8) -> bool
     ensures { λ a. ⌜ a ≡ rightOf op ty ⌝ }
 {
-    (op <= 2) & (ty == 0)
-        | (3 <= op) & (op <= 7) & (1 <= ty)
-        | (8 <= op) & (op <= 9)
-        | (10 <= op) & (op <= 13) & (1 <= ty)
-        | (14 <= op) & (op <= 15) & ((ty <= 1) | (ty == 3) | (ty == 4))
-        | (16 <= op) & ((ty == 1) | (ty == 3) | (ty == 4))
+    if op <= 2 {
+        return ty == 0;
+    }
+    if op <= 7 {
+        return 1 <= ty;
+    }
+    if op <= 9 {
+        return true;
+    }
+    if op <= 13 {
+        return 1 <= ty;
+    }
+    if op <= 15 {
+        return (ty <= 1) | (ty == 3) | (ty == 4);
+    }
+    (ty == 1) | (ty == 3) | (ty == 4)
 }
 
 // Whether a type has the right to a unary operator.

@@ -1,12 +1,11 @@
 -- Scalars: what an operator gives on them by components is one step on their converted patterns. Assumes nothing.
 use mathlib.Core.Path.{_≡_, refl, sym, ap, _∙_}
-use mathlib.Core.Bool.{Bool, true, false, not, _&&_, _||_}
+use mathlib.Core.Bool.{Bool, true, false, not, _&&_}
 use mathlib.Core.List.{List, _∷_}
-use Prim.Native.Nat.{ℕ, _^_, _<_}
-use lib.Dec.{eqb, leb, ltb}
+use Prim.Native.Nat.{ℕ}
+use lib.Dec.{eqb, leb}
 use lib.ListN.{getD, replicate}
-use native.Mathlib.Omega.{arith}
-use borrow.Author.Tests.{eqb-true, leb-false, ne-eqb, lt-leb}
+use borrow.Author.Tests.{eqb-true, leb-false}
 use Rattle.scalar.specs.declared.Conv.{Conv}
 use Rattle.scalar.specs.declared.Conv.the-variants as C
 use Rattle.scalar.specs.declared.Refusal.{Refusal}
@@ -14,6 +13,7 @@ use Rattle.scalar.specs.declared.Step.{Step}
 use Rattle.scalar.specs.declared.Step.the-variants as S
 use Rattle.scalar.specs.Pattern.{pick, properOf}
 use Rattle.scalar.specs.Step.{stepOf, unaryStepOf, convOf, rightOf, unaryRightOf}
+use Rattle.scalar.proofs.Rights.{not-proper}
 use Rattle.shape.specs.Operand.{shapeOk, shapeOf, isScalar, isMatrix, countOf, upTo, every, partOf, goodOf}
 use Rattle.shape.specs.Components.{Out, got, stop, through, worked, bitsOf, convBits, pairAt, unaryAt, lane, convAt}
 use Rattle.shape.specs.Pairing.{opKnown, unaryKnown, stageKnown, innerOk, sameShape, pairOk, targetsOf, resultType}
@@ -128,24 +128,13 @@ and-true : (b : Bool) → (b && true) ≡ b
 and-true true = refl
 and-true false = refl
 
-unknown : (ty b : ℕ) → leb ty 6 ≡ false → false ≡ properOf ty b
-unknown ty b e =
-    let h : 6 < ty = leb-false ty 6 e in
-    rw (ne-eqb ty 0 (λ q. omega arith), lt-leb ty 2 (omega arith), lt-leb ty 5 (omega arith), ne-eqb ty 6 (λ q. omega arith)) (none (leb 1 ty) (leb 3 ty) (ltb b (2 ^ 32)))
-  where
-    none : (p q r : Bool) → false ≡ ((false || (p && false)) || (q && false && r) || false)
-    none true true r = refl
-    none true false r = refl
-    none false true r = refl
-    none false false r = refl
-
 pub good-one : (ty b : ℕ) → goodOf (aScalar ty b) ≡ properOf ty b
 unfolding goodOf upTo every
 good-one ty b = go (leb ty 6) refl
   where
     go : (t : Bool) → leb ty 6 ≡ t → (t && true && true && true && (properOf ty b && true)) ≡ properOf ty b
     go true e = and-true (properOf ty b)
-    go false e = unknown ty b e
+    go false e = not-proper ty b (leb-false ty 6 e)
 
 -- ---- an operand of one column of one row is its first component
 abbrev first : Instance → Instance
