@@ -90,7 +90,8 @@ pub fn unary(op: u8, stage: u8, v: Instance) -> Outcome
         rows: v.rows,
     };
     if operand::is_scalar(s) {
-        return unary_scalar(op, stage, v.ty, v.comps[0]);
+        let step = scalars::unary(op, stage, v.ty, v.comps[0]);
+        return scalars::settled(step);
     }
     if !pairing::unary_known(op) {
         return refused(25, 0);
@@ -124,7 +125,8 @@ pub fn binary(op: u8, stage: u8, l: Instance, r: Instance) -> Outcome
         rows: r.rows,
     };
     if operand::is_scalar(a) & operand::is_scalar(b) {
-        return binary_scalars(op, stage, l.ty, l.comps[0], r.ty, r.comps[0]);
+        let step = scalars::binary(op, stage, l.ty, l.comps[0], r.ty, r.comps[0]);
+        return scalars::settled(step);
     }
     if !pairing::op_known(op) {
         return refused(25, 0);

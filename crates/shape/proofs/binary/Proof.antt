@@ -14,17 +14,20 @@ is-scalar-requires c κs = search needs
 is-scalar-requires-2 : tie.Need-is-scalar-requires-2
 is-scalar-requires-2 c κs = search needs
 
-element-copy-out-binary-scalars : tie.Need-element-copy-out-binary-scalars
-element-copy-out-binary-scalars c = search needs
+element-copy-out-binary : tie.Need-element-copy-out-binary
+element-copy-out-binary c = search needs
 
-element-copy-out-binary-scalars-2 : tie.Need-element-copy-out-binary-scalars-2
-element-copy-out-binary-scalars-2 c = search needs
+element-copy-out-binary-2 : tie.Need-element-copy-out-binary-2
+element-copy-out-binary-2 c = search needs
 
-binary-scalars-requires : tie.Need-binary-scalars-requires
-binary-scalars-requires c κs = search needs
+binary-requires : tie.Need-binary-requires
+binary-requires c κs = search needs
+
+settled-requires : tie.Need-settled-requires
+settled-requires c κs = search needs
 
 returns : tie.Need-returns
-returns c = scalars-stand _ _ _ _ _ _ _ (c .before .before .before .before .before .is-scalar .ensures) (c .before .before .before .before .is-scalar2 .ensures) (c .before .before .before .if1 .taken) (c .binary-scalars .ensures)
+returns c = scalars-stand _ _ _ _ _ _ _ (c .before .before .before .before .before .before .is-scalar .ensures) (c .before .before .before .before .before .is-scalar2 .ensures) (c .before .before .before .before .if1 .taken) (c .settled .ensures ∙ c .before .binary .ensures)
 
 op-known-requires : tie.Need-op-known-requires
 op-known-requires c κs = search needs
@@ -79,9 +82,10 @@ binary-spec =
     (tie.spec
     is-scalar-requires
     is-scalar-requires-2
-    element-copy-out-binary-scalars
-    element-copy-out-binary-scalars-2
-    binary-scalars-requires
+    element-copy-out-binary
+    element-copy-out-binary-2
+    binary-requires
+    settled-requires
     returns
     op-known-requires
     refused-requires

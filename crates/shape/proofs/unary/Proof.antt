@@ -12,14 +12,17 @@ use Rattle.shape.proofs.unary.Tie as tie
 is-scalar-requires : tie.Need-is-scalar-requires
 is-scalar-requires c κs = search needs
 
-element-copy-out-unary-scalar : tie.Need-element-copy-out-unary-scalar
-element-copy-out-unary-scalar c = search needs
+element-copy-out-unary : tie.Need-element-copy-out-unary
+element-copy-out-unary c = search needs
 
-unary-scalar-requires : tie.Need-unary-scalar-requires
-unary-scalar-requires c κs = search needs
+unary-requires : tie.Need-unary-requires
+unary-requires c κs = search needs
+
+settled-requires : tie.Need-settled-requires
+settled-requires c κs = search needs
 
 returns : tie.Need-returns
-returns c = scalar-stands _ _ _ _ _ (c .before .before .before .is-scalar .ensures) (c .before .before .if1 .taken) (c .unary-scalar .ensures)
+returns c = scalar-stands _ _ _ _ _ (c .before .before .before .before .is-scalar .ensures) (c .before .before .before .if1 .taken) (c .settled .ensures ∙ c .before .unary .ensures)
 
 unary-known-requires : tie.Need-unary-known-requires
 unary-known-requires c κs = search needs
@@ -63,8 +66,9 @@ unary-spec =
     tie.close
     (tie.spec
     is-scalar-requires
-    element-copy-out-unary-scalar
-    unary-scalar-requires
+    element-copy-out-unary
+    unary-requires
+    settled-requires
     returns
     unary-known-requires
     refused-requires
