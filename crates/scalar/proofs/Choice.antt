@@ -20,7 +20,7 @@ abbrev pub Misses : ℕ → ℕ → ℕ → Type 0
 Misses a zero i = Unit {0}
 Misses a (suc n) i = Misses a n i × (i ≡ a + n → ⊥)
 
-pub apart : (a n i : ℕ) → Misses a n i → (i < a) ⊎ (a + n ≤ i)
+apart : (a n i : ℕ) → Misses a n i → (i < a) ⊎ (a + n ≤ i)
 apart zero zero i m = inr (omega arith)
 apart (suc a) zero zero m = inl (omega arith)
 apart (suc a) zero (suc i) m = elim (apart a zero i tt) [ inl h ↦ inl (omega arith) | inr h ↦ inr (omega arith) ]

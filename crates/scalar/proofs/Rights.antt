@@ -1,14 +1,14 @@
--- The tests of a type's code against the patterns of the types and against the types' rights, code after code. Assumes nothing.
-use Prim.Native.Nat.{ℕ, _^_, _<_, _≤_}
-use mathlib.Core.Path.{_≡_, refl, sym}
+-- The tests of the code against the patterns of the types and against the types' rights. Assumes nothing.
+use Prim.Native.Nat.{ℕ, zero, suc, _^_, _<_, _≤_}
+use mathlib.Core.Path.{_≡_, refl, sym, ap, _∙_}
 use mathlib.Core.Bool.{Bool, true, false, _&&_, _||_}
 use mathlib.Core.Logic.{inl, inr}
 use native.Mathlib.Omega.{arith}
 use lib.Dec.{eqb, leb, ltb}
-use borrow.Author.Tests.{le-leb, lt-leb, ne-eqb}
-use Rattle.scalar.specs.Pattern.{properOf}
+use borrow.Author.Tests.{le-leb, lt-leb, lt-ltb, le-ltb, ne-eqb}
+use Rattle.rounding.proofs.Closest.{le-or-lt}
+use Rattle.scalar.specs.Pattern.{properOf, mostOf}
 use Rattle.scalar.specs.Step.{rightOf}
-use Rattle.scalar.proofs.Choice.{Misses, apart}
 
 or-false : (x : Bool) → (x || false) ≡ x
 or-false true = refl
@@ -19,34 +19,32 @@ and-false true = refl
 and-false false = refl
 
 -- ---- patterns
-module _ (ty b : ℕ) where
-  pub bool-proper : ty ≡ 0 → ltb b 2 ≡ properOf ty b
-  bool-proper e = rw e (sym (simp or-false))
+-- a code beyond the types'
+pub not-proper : (ty b : ℕ) → 6 < ty → false ≡ properOf ty b
+not-proper ty b h =
+    rw (ne-eqb ty 0 (λ q. omega arith), lt-leb ty 2 (omega arith), lt-leb ty 5 (omega arith), ne-eqb ty 6 (λ q. omega arith))
+    (sym (simp (and-false, or-false)))
 
-  -- AbstractInt and AbstractFloat
-  pub wide-proper : ty ≡ 1 → true ≡ properOf ty b
-  wide-proper e = rw e
+-- no larger than m is below the next number
+below-next : (b m : ℕ) → leb b m ≡ ltb b (suc m)
+below-next b m =
+    elim (le-or-lt b m) [
+      | inl h ↦ le-leb b m h ∙ sym (lt-ltb b (suc m) (omega arith))
+      | inr h ↦ lt-leb b m h ∙ sym (le-ltb b (suc m) (omega arith))
+    ]
 
-  pub float-proper : ty ≡ 2 → true ≡ properOf ty b
-  float-proper e = rw e
-
-  -- I32, U32 and F32
-  pub narrow-proper : 3 ≤ ty → ty ≤ 5 → ltb b (2 ^ 32) ≡ properOf ty b
-  narrow-proper h k =
-      rw (ne-eqb ty 0 (λ q. omega arith), le-leb 1 ty (omega arith), lt-leb ty 2 (omega arith), le-leb 3 ty h, le-leb ty 5 k, ne-eqb ty 6 (λ q. omega arith))
-      (sym (simp or-false))
-
-  pub half-proper : ty ≡ 6 → ltb b (2 ^ 16) ≡ properOf ty b
-  half-proper e = rw e
-
-  -- a code beyond the types'
-  pub not-proper : 6 < ty → false ≡ properOf ty b
-  not-proper h =
-      rw (ne-eqb ty 0 (λ q. omega arith), lt-leb ty 2 (omega arith), lt-leb ty 5 (omega arith), ne-eqb ty 6 (λ q. omega arith))
-      (sym (simp (and-false, or-false)))
-
-  pub no-proper : Misses 0 7 ty → false ≡ properOf ty b
-  no-proper m = elim (apart 0 7 ty m) [ inl h ↦ absurd (omega arith) | inr h ↦ not-proper (omega arith) ]
+-- a proper pattern is one of a known type, and no larger than the type's largest
+pub up-to-most : (ty b : ℕ) → b < 2 ^ 64 → (leb ty 6 && leb b (mostOf ty)) ≡ properOf ty b
+up-to-most zero b h = below-next b 1 ∙ sym (or-false _ ∙ or-false _ ∙ or-false (ltb b 2))
+up-to-most (suc zero) b h = le-leb b 0xFFFFFFFFFFFFFFFF (omega arith)
+up-to-most (suc (suc zero)) b h = le-leb b 0xFFFFFFFFFFFFFFFF (omega arith)
+up-to-most (suc (suc (suc zero))) b h = below-next b 0xFFFFFFFF ∙ sym (or-false (ltb b (2 ^ 32)))
+up-to-most (suc (suc (suc (suc zero)))) b h = below-next b 0xFFFFFFFF ∙ sym (or-false (ltb b (2 ^ 32)))
+up-to-most (suc (suc (suc (suc (suc zero))))) b h = below-next b 0xFFFFFFFF ∙ sym (or-false (ltb b (2 ^ 32)))
+up-to-most (suc (suc (suc (suc (suc (suc zero)))))) b h = below-next b 0xFFFF
+up-to-most (suc (suc (suc (suc (suc (suc (suc ty))))))) b h =
+    let t = suc (suc (suc (suc (suc (suc (suc ty)))))) in
+    ap (λ (x : Bool). x && leb b (mostOf t)) (lt-leb t 6 (omega arith)) ∙ not-proper t b (omega arith)
 
 -- ---- rights
 module _ (op ty : ℕ) where

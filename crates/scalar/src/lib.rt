@@ -14,7 +14,7 @@ mod unary;
 ghost use mathlib.Core.Path.{_≡_};
 ghost use Rattle.scalar.specs.Answer.{answerOf, refusal, strict};
 ghost use Rattle.scalar.specs.Convert.{finiteOf};
-ghost use Rattle.scalar.specs.Pattern.{keptOf, properOf};
+ghost use Rattle.scalar.specs.Pattern.{keptOf, mostOf, properOf};
 ghost use Rattle.scalar.specs.Step.{binaryOf, convOf, converted, productAdded, rightOf, shiftOf, stageOf, stepOf, stepped, unaryOf, unaryRightOf, unaryStepOf};
 
 // A value with its type; an F16 is its bits.
@@ -119,20 +119,26 @@ fn is_finite(s: Scalar) -> bool
     }
 }
 
+// The largest pattern of a type.
+fn most(ty: u8) -> u64
+    ensures { λ r. ⌜ r ≡ mostOf ty ⌝ }
+{
+    match ty {
+        0 => 1,
+        1 => 0xffff_ffff_ffff_ffff,
+        2 => 0xffff_ffff_ffff_ffff,
+        3 => 0xffff_ffff,
+        4 => 0xffff_ffff,
+        5 => 0xffff_ffff,
+        _ => 0xffff,
+    }
+}
+
 // Whether a pattern is one of its type's.
 pub fn proper(ty: u8, bits: u64) -> bool
     ensures { λ r. ⌜ r ≡ properOf ty bits ⌝ }
 {
-    match ty {
-        0 => bits < 2,
-        1 => true,
-        2 => true,
-        3 => bits < 0x1_0000_0000,
-        4 => bits < 0x1_0000_0000,
-        5 => bits < 0x1_0000_0000,
-        6 => bits < 0x1_0000,
-        _ => false,
-    }
+    (ty <= 6) & (bits <= most(ty))
 }
 
 // The pattern as it is kept: every NaN of a type as one.
