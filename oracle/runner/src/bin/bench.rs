@@ -1,4 +1,4 @@
-//! Times the linked library and the Rust text on the same inputs. ns a call: the best of many runs.
+//! Times the linked library and the Rust text on the same inputs. ns a call: the best of many runs, in which the two take turns.
 //!
 //! `booth` goes from bytes to a slot. `Rust` is the text's operator on values that are ready; `Rust, bytes` the same from bytes to a slot.
 //! The sheet has no counterpart in the text: its change is held against its fresh evaluation.
@@ -17,15 +17,18 @@ fn hidden<T: Copy>(x: T) -> T {
     unsafe { std::ptr::read_volatile(&x) }
 }
 
+/// ns a turn, of that many turns one after the other.
+fn timed<T>(turns: u32, mut call: impl FnMut() -> T) -> f64 {
+    let start = Instant::now();
+    (0..turns).for_each(|_| {
+        hidden(&call());
+    });
+    start.elapsed().as_nanos() as f64 / f64::from(turns)
+}
+
+/// The best of many runs.
 fn best<T>(turns: u32, mut call: impl FnMut() -> T) -> f64 {
-    let mut run = || {
-        let start = Instant::now();
-        (0..turns).for_each(|_| {
-            hidden(&call());
-        });
-        start.elapsed().as_nanos() as f64 / f64::from(turns)
-    };
-    (0..40).map(|_| run()).fold(f64::MAX, f64::min)
+    (0..40).map(|_| timed(turns, &mut call)).fold(f64::MAX, f64::min)
 }
 
 fn bytes(v: &Operand) -> Vec<u8> {
@@ -101,14 +104,19 @@ fn line<G, R>(
         assert_eq!((a, slot), (b, other), "{name}: the two answers");
         assert_eq!(a, 0, "{name}: refused");
     }
+    // The three take turns, so that a slow moment of the machine falls on each alike.
+    let (mut ours, mut theirs, mut whole) = (f64::MAX, f64::MAX, f64::MAX);
+    for _ in 0..200 {
+        ours = ours.min(timed(10, || given.iter().fold(0, |sum, g| sum ^ booth(hidden(g), &mut slot))));
+        theirs = theirs.min(timed(10, || {
+            ready.iter().for_each(|r| {
+                hidden(&text(hidden(r)));
+            })
+        }));
+        whole = whole.min(timed(10, || given.iter().fold(0, |sum, g| sum ^ text_bytes(hidden(g), &mut other))));
+    }
     let n = given.len() as f64;
-    let ours = best(40, || given.iter().fold(0, |sum, g| sum ^ booth(hidden(&g), &mut slot))) / n;
-    let theirs = best(40, || {
-        ready.iter().for_each(|r| {
-            hidden(&text(hidden(&r)));
-        })
-    }) / n;
-    let whole = best(40, || given.iter().fold(0, |sum, g| sum ^ text_bytes(hidden(&g), &mut other))) / n;
+    let (ours, theirs, whole) = (ours / n, theirs / n, whole / n);
     println!("| {name} | {ours:.1} | {theirs:.1} | {whole:.1} | {:.2} | {:.2} |", ours / theirs, ours / whole);
 }
 
