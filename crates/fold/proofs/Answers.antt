@@ -111,6 +111,7 @@ pub record Fine (es : List Entry) (size i ty bits : ℕ) : Type 0 where
   pub sized : size ≡ 136 * length es
   pub setting : isSetting (entryAt es i) ≡ true
   pub among : i < length es
+  pub proper : properOf ty bits ≡ true
 
 passed : (t : Bool) (n x : ℕ) → (n ≡ 0 → ⊥) → need t n x ≡ 0 → (t ≡ true) × (x ≡ 0)
 unfolding need
@@ -122,7 +123,8 @@ unfolding faultOf
 fine es size i ty bits e =
     let p = passed _ 30 _ (λ z. omega arith) e in
     let q = passed _ 31 _ (λ z. omega arith) (p .1) in
-    record { sized = eqb-true size (136 * length es) (p .0); setting = q .0; among = setting-among es i (q .0) }
+    let r = passed _ 26 _ (λ z. omega arith) (q .1) in
+    record { sized = eqb-true size (136 * length es) (p .0); setting = q .0; among = setting-among es i (q .0); proper = r .0 }
 
 -- ---- the calls
 module _ (s : List ℕ) (x : Checked) (e : x ≡ checkedOf (readSheet s)) where

@@ -6,4 +6,5 @@ pub mod Places
 pub mod Steps
 pub mod Answers
 pub mod Theorems
+pub mod Formed
 pub mod Single

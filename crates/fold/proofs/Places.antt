@@ -213,6 +213,34 @@ places s es p (suc k) h = go (places s es p k (omega arith))
     go : (at : ℕ) × At s es k at → (at : ℕ) × At s es (suc k) at
     go w = let n = step s es k (w .0) (w .1) h in (n .0, rw (← (add-one k)) (after s es k (w .0) (w .1) h))
 
+-- the record of an entry: its head, the stages of the entries before it, and what its body holds
+pub record Recorded (s : List ℕ) (e : Entry) : Type 0 where
+  pub at : ℕ
+  pub stage : ℕ
+  pub start : ℕ
+  pub len : ℕ
+  pub stages : List ℕ
+  pub head : readHead s at ≡ head.Record stage start len
+  pub below : length stages ≤ 128
+  pub holds : Holds stages stage (partOf s start len) e
+
+pub recorded : (s : List ℕ) (es : List Entry) → At s es 0 0 → (k : ℕ) → k < length es → Recorded s (entryAt es k)
+recorded s es p k h = go (places s es p k (omega arith))
+  where
+    go : (at : ℕ) × At s es k at → Recorded s (entryAt es k)
+    go w =
+        let y = kept s es k (w .0) (w .1) h in
+        record {
+          at = w .0;
+          stage = y .stage;
+          start = y .start;
+          len = y .len;
+          stages = map stageOf (take k es);
+          head = y .head;
+          below = omega (arith, stages-long s es k (w .0) (w .1) h, few s es k (w .0) (w .1) h);
+          holds = body-holds (map stageOf (take k es)) (y .stage) _ (entryAt es k) (y .len) (y .read);
+        }
+
 early : (s : List ℕ) (es : List Entry) → At s es 0 0 → (k j : ℕ) → List·Memᴰ j (refsOf es k) → j < k
 early s es p k j u =
     ⊎-elim

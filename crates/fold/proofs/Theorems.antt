@@ -51,10 +51,10 @@ means-there es i v k l ne = ap (λ (e : Entry). bytesOf (entryMeaning l e)) (get
 
 -- a sheet that was accepted
 module _ (s : List ℕ) (es : List Entry) (z : ℕ) (good : readSheet s ≡ found es z) where
-  first : At s es 0 0
+  pub first : At s es 0 0
   first = record { within = omega arith; end = z; rest = sheet-good s es z good }
 
-  ord : Ordered (meansOf es) (refsOf es)
+  pub ord : Ordered (meansOf es) (refsOf es)
   ord = ordered s es first
 
   -- fresh results do not depend on what the buffer held

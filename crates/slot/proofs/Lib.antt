@@ -2,4 +2,5 @@ pub mod Parts
 pub mod Lows
 pub mod Slots
 pub mod Tests
+pub mod Written
 pub mod Single

@@ -1,0 +1,228 @@
+-- Which outcomes are well formed, and that a well-formed outcome, once written, is a well-formed slot.
+use mathlib.Core.Path.{_≡_, refl, sym, ap, _∙_}
+use mathlib.Core.Bool.{Bool, true, false, _&&_, _||_, or-true, false≢true}
+use mathlib.Core.List.{List, _∷_, _++_, append-assoc}
+use mathlib.Core.Logic.{⊎-elim, inl, inr}
+use Prim.Native.Nat.{ℕ, zero, suc, _+_, _*_, _/_, _%_, _^_, _<_, _≤_}
+use native.Mathlib.Omega.{arith}
+use native.Mathlib.Nat.{eq-or-lt-of-le, le-of-suc-le-suc, not-suc-le-zero, one-le-pow, pow-suc}
+use native.Mathlib.Numerals.{add-one}
+use lib.Arith.{mod-mul}
+use lib.Dec.{eqb, leb, ltb, lit<}
+use lib.ListN.{length, drop, getD, length-append}
+use lib.Pow.{mod-mod-pow}
+use lib.Seq.{take-at, drop-at, getD-drop}
+use borrow.Author.Tests.{ltb-true, ltb-false, lt-ltb, le-leb, lt-leb, eqb-true, eqb-false, eq-eqb}
+use Rattle.scalar.specs.Pattern.{pick, properOf, keptOf}
+use Rattle.scalar.proofs.Promises.{Fine}
+use Rattle.shape.specs.declared.Instance.{Instance}
+use Rattle.shape.specs.declared.Outcome.{Outcome}
+use Rattle.shape.specs.Operand.{shapeOk, shapeOf, upTo, every, partOf, goodOf}
+use Rattle.shape.specs.Meaning.{refusedWith, valueOf}
+use Rattle.shape.proofs.Places.{both, one-of, shape-small, count-small}
+use Rattle.shape.proofs.Traverse.{every-more}
+use Rattle.shape.proofs.Answers.{Answers}
+use Rattle.slot.specs.Bytes.{lows, whole, part}
+use Rattle.slot.specs.Slot.{eights, numbers, bytesOf, saidBy, slot, each, componentFormed, componentsFormed, valueFormed, blank, detailFormed, formed, wellFormed, referenceTo}
+use Rattle.slot.proofs.Lows.{lows-long}
+
+-- ---- tests that follow from tests, side by side; of the kept side nothing is asked
+or-both : {a b x y : Bool} → (a ≡ true → x ≡ true) → (b ≡ true → y ≡ true) → (a || b) ≡ true → (x || y) ≡ true
+or-both {a} {b} {x} {y} f g e = go a x f e
+  where
+    go : (a x : Bool) → (a ≡ true → x ≡ true) → (a || b) ≡ true → (x || y) ≡ true
+    go true x f e = rw (f refl)
+    go false true f e = refl
+    go false false f e = g e
+
+and-both : {a b x y : Bool} → (a ≡ true → x ≡ true) → (b ≡ true → y ≡ true) → (a && b) ≡ true → (x && y) ≡ true
+and-both {a} {b} f g e = let h = both a b e in rw (f (h .0), g (h .1))
+
+or-keep : (b : Bool) {a x : Bool} → (a ≡ true → x ≡ true) → (a || b) ≡ true → (x || b) ≡ true
+or-keep b f = or-both f (λ (e : b ≡ true). e)
+
+and-keep : (a : Bool) {b y : Bool} → (b ≡ true → y ≡ true) → (a && b) ≡ true → (a && y) ≡ true
+and-keep a f = and-both (λ (e : a ≡ true). e) f
+
+-- ---- a test of each number below n holds where it holds of all, and the other way round
+each-all : (p : ℕ → Bool) (n : ℕ) → ((i : ℕ) → i < n → p i ≡ true) → each p n ≡ true
+unfolding each
+each-all p zero f = refl
+each-all p (suc n) f = rw (each-all p n (λ i h. f i (omega arith)), f n (omega arith))
+
+each-at : (p : ℕ → Bool) (n : ℕ) → each p n ≡ true → (i : ℕ) → i < n → p i ≡ true
+unfolding each
+each-at p zero e i h = absurd (not-suc-le-zero h)
+each-at p (suc n) e i h =
+    let k = both (each p n) (p n) e in
+    ⊎-elim (λ (q : i ≡ n). rw q (k .1)) (λ (l : i < n). each-at p n (k .0) i l) (eq-or-lt-of-le (le-of-suc-le-suc h))
+
+-- the same for the components of an operand
+every-all : (p : ℕ → Bool) (f : ℕ → ℕ) (n : ℕ) → ((i : ℕ) → i < n → p (f i) ≡ true) → every p (upTo f n) ≡ true
+unfolding upTo every
+every-all p f zero g = refl
+every-all p f (suc n) g =
+    ap (λ (k : ℕ). every p (upTo f k)) (sym (add-one n)) ∙ sym (every-more p f n true true (sym (every-all p f n (λ i h. g i (omega arith)))) (sym (g n (omega arith))))
+
+-- ---- components
+-- those in use are proper and kept, the others 0
+comps-formed : (ty n : ℕ) (xs : List ℕ) → ((i : ℕ) → i < n → Fine ty (getD xs i 0)) → ((i : ℕ) → n ≤ i → getD xs i 0 ≡ 0) → componentsFormed ty n xs ≡ true
+unfolding componentsFormed componentFormed
+comps-formed ty n xs used rest = each-all _ 16 (λ i h. go i (ltb i n) refl)
+  where
+    go : (i : ℕ) (b : Bool) → ltb i n ≡ b → pick b (properOf ty (getD xs i 0) && eqb (keptOf ty (getD xs i 0)) (getD xs i 0)) (eqb (getD xs i 0) 0) ≡ true
+    go i true e = let f = used i (ltb-true i n e) in rw (f .0, eq-eqb (keptOf ty (getD xs i 0)) (getD xs i 0) (f .1))
+    go i false e = eq-eqb (getD xs i 0) 0 (rest i (ltb-false i n e))
+
+-- a value of a known type and shape with such components
+value-kept : (v : Instance) → shapeOk (v .ty) (v .cols) (v .rows) ≡ true → ((i : ℕ) → i < v .cols * v .rows → Fine (v .ty) (getD (v .comps) i 0))
+    → ((i : ℕ) → v .cols * v .rows ≤ i → getD (v .comps) i 0 ≡ 0) → valueFormed v ≡ true
+unfolding valueFormed
+value-kept v h used rest = rw (h, comps-formed (v .ty) (v .cols * v .rows) (v .comps) used rest)
+
+-- a well-formed value is a well-formed operand
+value-good : (v : Instance) → valueFormed v ≡ true → goodOf v ≡ true
+unfolding valueFormed componentsFormed componentFormed goodOf
+value-good v e =
+    let h = both (shapeOk (v .ty) (v .cols) (v .rows)) _ e in
+    let few : v .cols * v .rows ≤ 16 = count-small (shapeOf v) (shape-small (v .ty) (v .cols) (v .rows) (h .0)) in
+    rw (h .0) (every-all (properOf (v .ty)) (partOf (v .comps)) (v .cols * v .rows) (λ i l. used i l (each-at _ 16 (h .1) i (omega arith))))
+  where
+    used : (i : ℕ) → i < v .cols * v .rows → componentFormed (v .ty) (v .cols * v .rows) (v .comps) i ≡ true → properOf (v .ty) (getD (v .comps) i 0) ≡ true
+    used i l q = both (properOf (v .ty) (getD (v .comps) i 0)) _ (rw (lt-ltb i (v .cols * v .rows) l) at q) .0
+
+-- ---- what does not fit its bytes is cut: a list of numbers that stands for a buffer may say more than 8 bytes hold
+-- the low bytes of a number are its remainder
+whole-cut : (n x : ℕ) → whole (lows n x) ≡ x % 256 ^ n
+unfolding lows whole
+whole-cut zero x = omega arith
+whole-cut (suc n) x =
+    let q : x % (256 ^ n * 256) ≡ (x / 256 % 256 ^ n) * 256 + x % 256 = mod-mul x (one-le-pow n 256 (lit< tt)) (lit< tt) in
+    rw (pow-suc 256 n, q) (omega (arith, whole-cut n (x / 256)))
+
+-- components that are written are read back cut to 8 bytes
+numbers-cut : (n : ℕ) (h xs : List ℕ) (a : ℕ) → length h ≡ a → (i : ℕ) → i < n → getD (numbers n (h ++ eights n xs) a) i 0 ≡ getD xs i 0 % 256 ^ 8
+unfolding numbers eights part
+numbers-cut zero h xs a e i q = absurd (not-suc-le-zero q)
+numbers-cut (suc n) h xs a e zero q =
+    ap (λ (t : List ℕ). whole (part t 0 8)) (drop-at h (lows 8 (getD xs 0 0) ++ eights n (drop 1 xs)) a e)
+    ∙ ap whole (take-at (lows 8 (getD xs 0 0)) (eights n (drop 1 xs)) 8 (lows-long 8 (getD xs 0 0))) ∙ whole-cut 8 (getD xs 0 0)
+numbers-cut (suc n) h xs a e (suc i) q =
+    ap (λ (t : List ℕ). getD (numbers n t (a + 8)) i 0) (sym (append-assoc h (lows 8 (getD xs 0 0)) (eights n (drop 1 xs))))
+    ∙ numbers-cut n (h ++ lows 8 (getD xs 0 0)) (drop 1 xs) (a + 8) (omega (arith, length-append h (lows 8 (getD xs 0 0)), lows-long 8 (getD xs 0 0))) i (le-of-suc-le-suc q)
+    ∙ ap (λ (x : ℕ). x % 256 ^ 8) (getD-drop 1 xs i 0 ∙ ap (λ (k : ℕ). getD xs k 0) (omega arith))
+
+-- a proper pattern stays proper
+proper-cut : (ty b : ℕ) → properOf ty b ≡ true → properOf ty (b % 256 ^ 8) ≡ true
+proper-cut ty b =
+    or-both
+    (or-both (or-keep (leb 1 ty && leb ty 2) (and-keep (eqb ty 0) (below 2))) (and-keep (leb 3 ty && leb ty 5) (below (2 ^ 32))))
+    (and-keep (eqb ty 6) (below (2 ^ 16)))
+  where
+    below : (m : ℕ) → ltb b m ≡ true → ltb (b % 256 ^ 8) m ≡ true
+    below m e = lt-ltb (b % 256 ^ 8) m (omega (arith, ltb-true b m e))
+
+-- whether a pattern is a NaN is told by its low bits
+nan-cut : (j k top c b : ℕ) → c % 2 ^ (j + k) ≡ c → pick (ltb top (b % 2 ^ k)) c b ≡ b
+    → pick (ltb top (b % 2 ^ (j + k) % 2 ^ k)) c (b % 2 ^ (j + k)) ≡ b % 2 ^ (j + k)
+nan-cut j k top c b h = rw (mod-mod-pow b j k) (go (ltb top (b % 2 ^ k)))
+  where
+    go : (t : Bool) → pick t c b ≡ b → pick t c (b % 2 ^ (j + k)) ≡ b % 2 ^ (j + k)
+    go true q = sym h ∙ ap (λ (x : ℕ). x % 2 ^ (j + k)) q
+    go false q = refl
+
+-- a pattern that is kept stays kept
+kept-cut : (ty b : ℕ) → keptOf ty b ≡ b → keptOf ty (b % 256 ^ 8) ≡ b % 256 ^ 8
+unfolding keptOf
+kept-cut zero b e = refl
+kept-cut (suc zero) b e = refl
+kept-cut (suc (suc zero)) b e = nan-cut 1 63 0x7FF0000000000000 0x7FF8000000000000 b refl e
+kept-cut (suc (suc (suc zero))) b e = refl
+kept-cut (suc (suc (suc (suc zero)))) b e = refl
+kept-cut (suc (suc (suc (suc (suc zero))))) b e = nan-cut 33 31 0x7F800000 0x7FC00000 b refl e
+kept-cut (suc (suc (suc (suc (suc (suc zero)))))) b e = nan-cut 49 15 0x7C00 0x7E00 b refl e
+kept-cut (suc (suc (suc (suc (suc (suc (suc ty))))))) b e = refl
+
+-- so well-formed components stay well formed
+comps-cut : (ty n : ℕ) (xs ys : List ℕ) → ((i : ℕ) → i < 16 → getD ys i 0 ≡ getD xs i 0 % 256 ^ 8)
+    → componentsFormed ty n xs ≡ true → componentsFormed ty n ys ≡ true
+unfolding componentsFormed componentFormed
+comps-cut ty n xs ys cut e = each-all _ 16 (λ i h. rw (cut i h) (go (ltb i n) (getD xs i 0) (each-at _ 16 e i h)))
+  where
+    go : (b : Bool) (x : ℕ) → pick b (properOf ty x && eqb (keptOf ty x) x) (eqb x 0) ≡ true
+        → pick b (properOf ty (x % 256 ^ 8) && eqb (keptOf ty (x % 256 ^ 8)) (x % 256 ^ 8)) (eqb (x % 256 ^ 8) 0) ≡ true
+    go true x q = and-both (proper-cut ty x) (λ z. eq-eqb (keptOf ty (x % 256 ^ 8)) (x % 256 ^ 8) (kept-cut ty x (eqb-true (keptOf ty x) x z))) q
+    go false x q = eq-eqb (x % 256 ^ 8) 0 (ap (λ (k : ℕ). k % 256 ^ 8) (eqb-true x 0 q))
+
+-- ---- a well-formed outcome, once written, is a well-formed slot
+pub written : (o : Outcome) → formed o ≡ true → wellFormed (bytesOf o) ≡ true
+unfolding wellFormed formed valueFormed blank saidBy bytesOf part
+written o =
+    or-both
+    (and-both (and-keep (eqb (o .status) 0) zero-detail)
+    (and-keep (shapeOk (o .value .ty) (o .value .cols) (o .value .rows)) (comps (o .value .ty) (o .value .cols * o .value .rows))))
+    (and-both
+    (and-keep (leb 1 (o .status) && leb (o .status) 11)
+    (or-both (or-keep (eqb (o .status) 10) (or-keep (eqb (o .status) 9) zero-detail)) (and-keep (eqb (o .status) 11) low-detail)))
+    (and-keep (eqb (o .value .ty) 0 && eqb (o .value .cols) 0 && eqb (o .value .rows) 0) (comps 0 0)))
+  where
+    h : List ℕ
+    h = o .status ∷ o .value .ty ∷ o .value .cols ∷ o .value .rows ∷ lows 4 (o .detail)
+
+    detail : whole (part (bytesOf o) 4 4) ≡ o .detail % 256 ^ 4
+    detail = ap whole (take-at (lows 4 (o .detail)) (eights 16 (o .value .comps)) 4 (lows-long 4 (o .detail))) ∙ whole-cut 4 (o .detail)
+
+    zero-detail : eqb (o .detail) 0 ≡ true → eqb (whole (part (bytesOf o) 4 4)) 0 ≡ true
+    zero-detail q = eq-eqb (whole (part (bytesOf o) 4 4)) 0 (omega (arith, detail, eqb-true (o .detail) 0 q))
+
+    low-detail : ltb (o .detail) 128 ≡ true → ltb (whole (part (bytesOf o) 4 4)) 128 ≡ true
+    low-detail q = lt-ltb (whole (part (bytesOf o) 4 4)) 128 (omega (arith, detail, ltb-true (o .detail) 128 q))
+
+    comps : (ty n : ℕ) → componentsFormed ty n (o .value .comps) ≡ true → componentsFormed ty n (numbers 16 (bytesOf o) 8) ≡ true
+    comps ty n = comps-cut ty n (o .value .comps) (numbers 16 (bytesOf o) 8) (numbers-cut 16 h (o .value .comps) 8 (omega (arith, lows-long 4 (o .detail))))
+
+-- ---- which outcomes are well formed
+-- a value of a known type and shape, whose components in use are proper and kept, the others 0
+pub formed-value : (v : Instance) → shapeOk (v .ty) (v .cols) (v .rows) ≡ true → ((i : ℕ) → i < v .cols * v .rows → Fine (v .ty) (getD (v .comps) i 0))
+    → ((i : ℕ) → v .cols * v .rows ≤ i → getD (v .comps) i 0 ≡ 0) → formed (valueOf v) ≡ true
+unfolding formed
+formed-value v h used rest = rw (value-kept v h used rest)
+
+-- a refusal by a number from 1 to 11 with such a detail
+refusal-formed : (n d : ℕ) → 1 ≤ n → n ≤ 11 → detailFormed n d ≡ true → formed (refusedWith n d) ≡ true
+unfolding formed blank componentsFormed componentFormed each
+refusal-formed n d lo hi h = rw (le-leb 1 n lo, le-leb n 11 hi, h) (or-true (eqb n 0 && eqb d 0 && valueFormed (refusedWith n d .value)))
+
+-- whatever an operator answers
+pub answers-formed : (o : Outcome) → Answers o → formed o ≡ true
+unfolding formed
+answers-formed o (inl a) = rw (eq-eqb (o .status) 0 (a .status), eq-eqb (o .detail) 0 (a .detail), value-kept (o .value) (a .shape) (a .parts .used) (a .parts .rest))
+answers-formed o (inr a) = ap formed (a .zeros) ∙ refusal-formed (o .status) (o .detail) (a .low) (omega (arith, a .high)) (go (eqb (o .status) 9) (eqb (o .status) 10) refl refl)
+  where
+    go : (x y : Bool) → eqb (o .status) 9 ≡ x → eqb (o .status) 10 ≡ y → (eqb (o .detail) 0 || x || y || (eqb (o .status) 11 && ltb (o .detail) 128)) ≡ true
+    go true y p q = rw (or-true (eqb (o .detail) 0))
+    go false true p q = rw (or-true (eqb (o .detail) 0 || false))
+    go false false p q = rw (eq-eqb (o .detail) 0 (a .plain (eqb-false (o .status) 9 p) (eqb-false (o .status) 10 q)))
+
+-- a reference to one of 128 entries, whatever its slot holds
+pub reference-formed : (l : List ℕ) (k : ℕ) → k < 128 → formed (referenceTo l k) ≡ true
+unfolding referenceTo wellFormed
+reference-formed l k h = go (eqb (saidBy (slot l k) .status) 0) (formed (saidBy (slot l k))) refl
+  where
+    from-entry : formed (refusedWith 11 k) ≡ true
+    from-entry = refusal-formed 11 k (omega arith) (omega arith) (rw (lt-ltb k 128 h) (or-true (eqb k 0 || false || false)))
+
+    go : (a b : Bool) → formed (saidBy (slot l k)) ≡ b → formed (pick (a && b) (saidBy (slot l k)) (refusedWith 11 k)) ≡ true
+    go true true e = e
+    go true false e = from-entry
+    go false b e = from-entry
+
+-- the value of a well-formed outcome of status 0 is a well-formed operand
+pub formed-good : (o : Outcome) → formed o ≡ true → eqb (o .status) 0 ≡ true → goodOf (o .value) ≡ true
+unfolding formed
+formed-good o e q =
+    let z : leb 1 (o .status) ≡ false = lt-leb 1 (o .status) (omega (arith, eqb-true (o .status) 0 q)) in
+    ⊎-elim
+    (λ p. value-good (o .value) (both (eqb (o .status) 0 && eqb (o .detail) 0) _ p .1))
+    (λ p. absurd (false≢true (rw z at p)))
+    (one-of (eqb (o .status) 0 && eqb (o .detail) 0 && valueFormed (o .value)) _ e)
