@@ -1,6 +1,6 @@
 -- Sixteen numbers, one after another.
 use mathlib.Core.Path.{_≡_, refl, sym, ap, _∙_}
-use mathlib.Core.Bool.{Bool, true, false, _&&_, false≢true}
+use mathlib.Core.Bool.{Bool, true, false, _&&_, and-eq-true-iff}
 use mathlib.Core.List.{List, _∷_}
 use Prim.Native.Nat.{ℕ, zero, suc, _+_, _*_, _-_, _<_, _≤_}
 use native.Mathlib.Omega.{arith}
@@ -62,10 +62,7 @@ sixteen-one s h = reading-all (reading-more (eight s) (reading-none s) (omega ar
 
 -- the loop goes on only where a number is left to read
 pub on : (i : ℕ) (b : Bool) → (ltb i 16 && b) ≡ true → i < 16
-on i b e = ltb-true i 16 (left (ltb i 16) b e) where
-  left : (a b : Bool) → (a && b) ≡ true → a ≡ true
-  left true b e = refl
-  left false b e = absurd (false≢true e)
+on i b e = ltb-true i 16 (and-eq-true-iff (ltb i 16) b .0 e .0)
 
 -- it ends before the sixteenth only where its other test fails
 pub stop : (i : ℕ) (b : Bool) → (ltb i 16 && b) ≡ false → i < 16 → b ≡ false

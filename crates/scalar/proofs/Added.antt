@@ -1,7 +1,7 @@
 -- The sum with a product, from what its steps or its kernels promise. Assumes nothing.
 use Prim.Native.Nat.{ℕ, zero, suc, _%_, _^_}
 use mathlib.Core.Path.{_≡_, refl, sym, ap, subst, _∙_}
-use mathlib.Core.Bool.{Bool, true, false, not, _&&_, false≢true}
+use mathlib.Core.Bool.{Bool, true, false, not, _&&_, and-eq-true-iff}
 use mathlib.Core.Logic.{inl, inr}
 use native.Mathlib.Omega.{arith}
 use lib.Dec.{eqb, ltb}
@@ -173,10 +173,6 @@ half-kernel stage sum l r u v d {o} {f} {g} {w} {x} {y} {q} {p} {t} lx ry m sw p
     reads b f = picked _ _ (lt-ltb b 65536 (f .fits))
 
 -- ---- the type and the widths of the three patterns, as the tests leave them
-both : (a b : Bool) → (a && b) ≡ true → (a ≡ true) × (b ≡ true)
-both true b h = (refl, h)
-both false b h = absurd (false≢true h)
-
 pub record Fitting (w : Width) (ty key a b c : ℕ) : Type 0 where
   pub typed : ty ≡ key
   pub first : Fits w a
@@ -187,9 +183,9 @@ pub fitting : (w : Width) (ty key a b c : ℕ)
     → (eqb ty key && ltb a (2 ^ bits w) && ltb b (2 ^ bits w) && ltb c (2 ^ bits w)) ≡ true → Fitting w ty key a b c
 fitting w ty key a b c h =
     let n = 2 ^ bits w in
-    let x = both (eqb ty key && ltb a n && ltb b n) (ltb c n) h in
-    let y = both (eqb ty key && ltb a n) (ltb b n) (x .0) in
-    let z = both (eqb ty key) (ltb a n) (y .0) in
+    let x = and-eq-true-iff (eqb ty key && ltb a n && ltb b n) (ltb c n) .0 h in
+    let y = and-eq-true-iff (eqb ty key && ltb a n) (ltb b n) .0 (x .0) in
+    let z = and-eq-true-iff (eqb ty key) (ltb a n) .0 (y .0) in
     record {
       typed = eqb-true ty key (z .0);
       first = record { fits = ltb-true a n (z .1) };

@@ -1,7 +1,7 @@
 -- The tests of the code against the patterns of the types and against the types' rights. Assumes nothing.
 use Prim.Native.Nat.{ℕ, zero, suc, _^_, _<_, _≤_}
-use mathlib.Core.Path.{_≡_, refl, sym, ap, _∙_}
-use mathlib.Core.Bool.{Bool, true, false, _&&_, _||_}
+use mathlib.Core.Path.{_≡_, sym, ap, _∙_}
+use mathlib.Core.Bool.{Bool, true, false, _&&_, _||_, or-false, and-false}
 use mathlib.Core.Logic.{inl, inr}
 use native.Mathlib.Omega.{arith}
 use lib.Dec.{eqb, leb, ltb}
@@ -9,14 +9,6 @@ use borrow.Author.Tests.{le-leb, lt-leb, lt-ltb, le-ltb, ne-eqb}
 use Rattle.rounding.proofs.Closest.{le-or-lt}
 use Rattle.scalar.specs.Pattern.{properOf, mostOf}
 use Rattle.scalar.specs.Step.{rightOf}
-
-or-false : (x : Bool) → (x || false) ≡ x
-or-false true = refl
-or-false false = refl
-
-and-false : (x : Bool) → (x && false) ≡ false
-and-false true = refl
-and-false false = refl
 
 -- ---- patterns
 -- a code beyond the types'

@@ -1,6 +1,6 @@
 -- Scalars: what an operator gives on them by components is one step on their converted patterns. Assumes nothing.
 use mathlib.Core.Path.{_≡_, refl, sym, ap, _∙_}
-use mathlib.Core.Bool.{Bool, true, false, not, _&&_}
+use mathlib.Core.Bool.{Bool, true, false, not, _&&_, and-true}
 use mathlib.Core.List.{List, _∷_}
 use Prim.Native.Nat.{ℕ}
 use lib.Dec.{eqb, leb}
@@ -124,10 +124,6 @@ pub converted-one : (x y op stage lt l rt r : ℕ) → convertedTo x y op stage 
 converted-one x y op stage lt l rt r = two-scalars x y op stage (aScalar lt l) (aScalar rt r) refl refl
 
 -- ---- a scalar is well formed where its pattern is proper
-and-true : (b : Bool) → (b && true) ≡ b
-and-true true = refl
-and-true false = refl
-
 pub good-one : (ty b : ℕ) → goodOf (aScalar ty b) ≡ properOf ty b
 unfolding goodOf upTo every
 good-one ty b = go (leb ty 6) refl

@@ -1,6 +1,6 @@
 -- Which types and shapes meet, in plain facts: what a known shape says, what a common type keeps. Assumes nothing.
 use mathlib.Core.Path.{_≡_, refl, sym}
-use mathlib.Core.Bool.{Bool, true, false, _&&_, _||_}
+use mathlib.Core.Bool.{Bool, true, false, _&&_, _||_, and-false}
 use mathlib.Core.Logic.{_⊎_, inl, inr, ⊎-elim}
 use Prim.Native.Nat.{ℕ, _≤_, _<_}
 use native.Mathlib.Omega.{arith}
@@ -104,10 +104,6 @@ meets-float {op} {lt} {rt} (rightward h m) k f =
     ⊎-elim (λ (p : floatOf lt ≡ true). float-goes lt rt m p) (λ p. p) f
 
 -- ---- shapes that meet
-and-false : (b : Bool) → (b && false) ≡ false
-and-false true = refl
-and-false false = refl
-
 -- a matrix meets another operand in `+ - *` only
 module _ (op : ℕ) (a b : Shape) (e : pairOk op a b ≡ true) where
   arithmetic : ((leb 3 op && leb op 5 && isMatrix a && isMatrix b) || (eqb op 5 && (isMatrix a || isMatrix b))) ≡ true → op ≤ 5

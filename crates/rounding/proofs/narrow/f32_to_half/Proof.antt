@@ -1,14 +1,12 @@
 -- An F32 to F16: by its bits where both have a leading digit, else by way of F64, which holds it. Assumes nothing.
-use Prim.Native.Nat.{_%_, _^_}
 use mathlib.Core.Path.{sym, ap, _∙_, subst}
-use mathlib.Core.Bool.{and-eq-true-iff}
-use lib.Dec.{T, leb, ltb}
+use lib.Dec.{T}
 use lib.Ieee.{Float, binary32}
 use borrow.Author.Needs.{needs}
-use borrow.Author.Tests.{leb-true, ltb-true}
 use Rattle.rounding.specs.Kind.{half, convert}
 use Rattle.rounding.specs.Bits.{toBits}
 use Rattle.rounding.proofs.Back.{narrowed}
+use Rattle.rounding.proofs.Range.{inside}
 use Rattle.rounding.proofs.narrow.f32_to_half.Statement.{statement}
 use Rattle.rounding.proofs.narrow.f32_to_half.Tie as tie
 
@@ -16,10 +14,7 @@ f32-bits-requires : tie.Need-f32-bits-requires
 f32-bits-requires c κs = search needs
 
 leading-bits-requires : tie.Need-leading-bits-requires
-leading-bits-requires c κs =
-    let size = c .before .f32-bits .result % 2 ^ 31 in
-    let h = and-eq-true-iff (leb 0x3880_0000 size) (ltb size 0x4780_0000) .0 (c .if1 .taken) in
-    (leb-true _ size (h .0), ltb-true size _ (h .1))
+leading-bits-requires c κs = inside _ _ _ (c .if1 .taken)
 
 returns : tie.Need-returns
 returns c =
