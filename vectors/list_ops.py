@@ -1,4 +1,4 @@
-"""The lists of operator cases: scalars, shapes and a mixed sample.
+"""The lists of operator cases: scalars, and shapes.
 
 A case is (kind, op, stage, left, right); the model gives its outcome.
 """
@@ -333,9 +333,3 @@ def ops_shape(rng):
     parts = (shape_grid, type_grid, fitting_grid, unary_shapes, unequal, refusal_order, product_order, malformed,
              unknown_codes, garbage_beyond, shape_mismatch, conversion_order)
     return itertools.chain(table, *(part(rng) for part in parts))
-
-
-def ops_sample(rng, count):
-    """A sample that mixes everything, drawn from lists with other seeds."""
-    everything = itertools.chain(ops_scalar(rng), ops_shape(rng))
-    return rng.sample(list(dict.fromkeys(everything)), count)

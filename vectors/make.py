@@ -45,10 +45,6 @@ def ops_shape(rng):
     return ops_records(list_ops.ops_shape(rng))
 
 
-def ops_sample(rng):
-    return ops_records(list_ops.ops_sample(rng, 20000))
-
-
 def sheets(rng):
     for data, length, fill in list_sheets.cases(rng):
         results = bytearray([fill]) * length
@@ -75,7 +71,7 @@ def changes(rng):
         yield formats.put_changes(data, before, [change_step(data, results, step) for step in steps])
 
 
-MAKERS = (rounding, rounding_back, ops_scalar, ops_shape, ops_sample, sheets, slots, changes)
+MAKERS = (rounding, rounding_back, ops_scalar, ops_shape, sheets, slots, changes)
 LISTS = {maker.__name__: maker for maker in MAKERS}
 TEXTS = {"example.before": example.BEFORE, "example.after": example.AFTER}
 

@@ -1,5 +1,6 @@
 """Tests of the model: 01's table cases and example, the machine's own floats."""
 
+import collections
 import itertools
 import math
 import operator
@@ -10,6 +11,7 @@ import sys
 import floats
 import fold
 import list_ops
+import list_rounding
 import pools
 import shapes
 import slots
@@ -139,8 +141,16 @@ def test_coverage():
             assert (op, stage, left, right) in type_pairs, (op, stage, left, right)
 
 
+def test_rounding_kinds():
+    """The list `rounding` has every kind of conversion, hundreds of records of each; `rounding_back` has kind 3 of every F16 value."""
+    counts = collections.Counter(what for what, _, _ in list_rounding.rounding(random.Random(1)))
+    assert sorted(counts) == list(range(1, 13)) and min(counts.values()) > 200, counts
+    assert collections.Counter(what for what, _, _ in list_rounding.rounding_back()) == {3: 1 << 16}
+
+
 def main():
-    for test in (test_table, test_example, test_places, test_arithmetic, test_conversion, test_coverage):
+    tests = test_table, test_example, test_places, test_arithmetic, test_conversion, test_coverage, test_rounding_kinds
+    for test in tests:
         test()
         print(test.__name__, "passed")
 

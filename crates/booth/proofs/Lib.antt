@@ -1,3 +1,4 @@
 pub mod Operands
 pub mod Settled
 pub mod Single
+pub mod Impostors

@@ -1,43 +1,43 @@
 -- When bytes are an operand, and when they are a scalar.
 use Prim.Native.Nat.{ℕ, _+_, _*_, _≤_}
-use mathlib.Core.Path.{_≡_, refl, sym, _∙_}
+use mathlib.Core.Path.{_≡_, refl, sym, ap, _∙_}
 use mathlib.Core.Bool.{Bool, true, false, not, _&&_}
 use mathlib.Core.List.{List, _∷_}
 use native.Mathlib.Omega.{arith}
 use lib.Dec.{eqb, leb}
 use lib.ListN.{length, getD, take, drop, replicate, length-drop}
 use lib.Seq.{take-all}
-use borrow.Author.Tests.{eq-eqb, ne-eqb, eqb-true, not-true, not-false}
-use Rattle.scalar.specs.Pattern.{pick}
-use Rattle.shape.specs.declared.Instance.{Instance}
-use Rattle.shape.specs.Operand.{shapeOk}
-use Rattle.shape.specs.Meaning.{aScalar}
-use Rattle.shape.proofs.Places.{both}
+use borrow.Author.Tests.{eq-eqb, ne-eqb, eqb-true, ltb-true, le-leb, not-true, not-false}
+use Rattle.types.specs.Types.{knownOf}
+use Rattle.value.specs.Pattern.{pick}
+use Rattle.operand.specs.declared.Instance.{Instance}
+use Rattle.operand.specs.Operand.{shapeOk, aScalar}
+use Rattle.operand.proofs.Tests.{both}
 use Rattle.fields.specs.Field.{eight, sixteen}
 use Rattle.fields.proofs.Sixteen.{sixteen-one}
-use Rattle.booth.specs.Operand.{nothing, operandIn, scalarIn}
+use Rattle.booth.specs.Operand.{noOperand, operandIn, scalarIn}
 use Rattle.booth.specs.declared.direct.One.{One}
 use Rattle.booth.specs.declared.direct.One.the-variants as O
 
 module _ (b : List ℕ) (t c r : ℕ) (et : t ≡ getD b 0 0) (ec : c ≡ getD b 1 0) (er : r ≡ getD b 2 0) (q : Bool) (s : q ≡ shapeOk t c r) where
-  pub no-shape : not q ≡ true → (x : Instance) → x ≡ nothing → x ≡ operandIn b
+  pub no-shape : not q ≡ true → (x : Instance) → x ≡ noOperand → x ≡ operandIn b
   unfolding operandIn
   no-shape f x e = rw (← et, ← ec, ← er, ← s, not-true q f) e
 
   module _ (g : not q ≡ false) where
-    pub no-length : (n : ℕ) → n ≡ c * r → (length b ≡ 3 + 8 * n → ⊥) → (x : Instance) → x ≡ nothing → x ≡ operandIn b
+    pub no-length : (n : ℕ) → n ≡ c * r → (length b ≡ 3 + 8 * n → ⊥) → (x : Instance) → x ≡ noOperand → x ≡ operandIn b
     unfolding operandIn
     no-length n a f x e = rw (← et, ← ec, ← er, ← s, not-false q g, ← a, ne-eqb (length b) (3 + 8 * n) f) e
 
-    pub there : (n : ℕ) → n ≡ c * r → length b ≡ 3 + 8 * n → (xs p : List ℕ) → xs ≡ sixteen p → p ≡ take 128 (drop 3 b)
+    pub operand-there : (n : ℕ) → n ≡ c * r → length b ≡ 3 + 8 * n → (xs p : List ℕ) → xs ≡ sixteen p → p ≡ take 128 (drop 3 b)
         → _≡_ {A = Instance} (record { ty = t; cols = c; rows = r; comps = xs }) (operandIn b)
     unfolding operandIn
-    there n a l xs p e z = rw (← et, ← ec, ← er, ← s, not-false q g, ← a, eq-eqb (length b) (3 + 8 * n) l, e, z)
+    operand-there n a l xs p e z = rw (← et, ← ec, ← er, ← s, not-false q g, ← a, eq-eqb (length b) (3 + 8 * n) l, e, z)
 
 -- ---- scalars
 -- the first three bytes are a known type, one column and one row
 abbrev headed : List ℕ → Bool
-headed b = leb (getD b 0 0) 6 && eqb (getD b 1 0) 1 && eqb (getD b 2 0) 1
+headed b = knownOf (getD b 0 0) && eqb (getD b 1 0) 1 && eqb (getD b 2 0) 1
 
 -- bytes of another length are no scalar
 pub other-length : (b : List ℕ) → (length b ≡ 11 → ⊥) → O.Other ≡ scalarIn b
@@ -45,15 +45,21 @@ unfolding scalarIn
 other-length b f = rw (ne-eqb (length b) 11 f)
 
 module _ (b : List ℕ) (l : length b ≡ 11) where
-  -- nor are bytes of another type or shape
-  pub other-head : not (headed b) ≡ true → O.Other ≡ scalarIn b
-  unfolding scalarIn
-  other-head f = rw (eq-eqb (length b) 11 l, not-true (headed b) f)
+  -- k is the answer of the test of the type
+  module _ (k : Bool) (q : k ≡ knownOf (getD b 0 0)) where
+    tested : k && eqb (getD b 1 0) 1 && eqb (getD b 2 0) 1 ≡ headed b
+    tested = ap (λ (x : Bool). x && eqb (getD b 1 0) 1 && eqb (getD b 2 0) 1) q
 
-  -- any others are one
-  pub the-scalar : not (headed b) ≡ false → (x : ℕ) (p : List ℕ) → x ≡ eight p → p ≡ take 8 (drop 3 b) → O.Scalar (getD b 0 0) x ≡ scalarIn b
-  unfolding scalarIn
-  the-scalar g x p e z = rw (eq-eqb (length b) 11 l, not-false (headed b) g, e, z)
+    -- nor are bytes of another type or shape
+    pub other-head : not (k && eqb (getD b 1 0) 1 && eqb (getD b 2 0) 1) ≡ true → O.Other ≡ scalarIn b
+    unfolding scalarIn
+    other-head f = rw (eq-eqb (length b) 11 l, sym tested ∙ not-true _ f)
+
+    -- any others are one
+    pub the-scalar : not (k && eqb (getD b 1 0) 1 && eqb (getD b 2 0) 1) ≡ false → (x : ℕ) (p : List ℕ) → x ≡ eight p → p ≡ take 8 (drop 3 b)
+        → O.Scalar (getD b 0 0) x ≡ scalarIn b
+    unfolding scalarIn
+    the-scalar g x p e z = rw (eq-eqb (length b) 11 l, sym tested ∙ not-false _ g, e, z)
 
   -- the components in the bytes of a scalar are its pattern and fifteen zeros
   one-component : sixteen (take 128 (drop 3 b)) ≡ eight (take 8 (drop 3 b)) ∷ replicate 15 0
@@ -65,11 +71,12 @@ module _ (b : List ℕ) (l : length b ≡ 11) where
   operand-one : headed b ≡ true → operandIn b ≡ aScalar (getD b 0 0) (eight (take 8 (drop 3 b)))
   unfolding operandIn
   operand-one h =
-      let k = both (leb (getD b 0 0) 6 && eqb (getD b 1 0) 1) (eqb (getD b 2 0) 1) h in
-      let j = both (leb (getD b 0 0) 6) (eqb (getD b 1 0) 1) (k .0) in
+      let k = both (knownOf (getD b 0 0) && eqb (getD b 1 0) 1) (eqb (getD b 2 0) 1) h in
+      let j = both (knownOf (getD b 0 0)) (eqb (getD b 1 0) 1) (k .0) in
+      let t : leb (getD b 0 0) 6 ≡ true = le-leb (getD b 0 0) 6 (omega (arith, ltb-true (getD b 0 0) 7 (j .0))) in
       let c : getD b 1 0 ≡ 1 = eqb-true _ _ (j .1) in
       let r : getD b 2 0 ≡ 1 = eqb-true _ _ (k .1) in
-      rw (c, r, j .0, l, one-component)
+      simp (c, r, j .0, t, l, one-component)
 
 -- the operand in bytes that are a scalar
 scalar-operand : (b : List ℕ) (t x : ℕ) → scalarIn b ≡ O.Scalar t x → operandIn b ≡ aScalar t x
@@ -83,5 +90,5 @@ scalar-operand b t x h = go (eqb (length b) 11) (headed b) refl refl h
     go false q l k e = absurd (let y : _≡_ {A = ℕ} 0 1 = cc in omega arith)
 
 -- the same of bytes in which the code has found a scalar
-pub found : (b : List ℕ) (p : One) → p ≡ scalarIn b → (t x : ℕ) → p ≡ O.Scalar t x → operandIn b ≡ aScalar t x
-found b p e t x h = scalar-operand b t x (sym e ∙ h)
+pub scalar-found : (b : List ℕ) (p : One) → p ≡ scalarIn b → (t x : ℕ) → p ≡ O.Scalar t x → operandIn b ≡ aScalar t x
+scalar-found b p e t x h = scalar-operand b t x (sym e ∙ h)

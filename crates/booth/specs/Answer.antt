@@ -4,10 +4,10 @@ use Rattle.fold.specs.declared.Folded.{Folded}
 use Rattle.fold.specs.declared.Folded.the-variants.{Done, Refused}
 
 -- the number in bits 32 to 39, the detail in bits 0 to 31
-abbrev pub packed : ℕ → ℕ → ℕ
-packed number detail = number * 4294967296 + detail % 4294967296
+abbrev pub packedAnswer : ℕ → ℕ → ℕ
+packedAnswer number detail = number * 4294967296 + detail % 4294967296
 
 -- success has the number 0
 abbrev pub packedFold : Folded → ℕ
-packedFold (Done n) = packed 0 n
-packedFold (Refused number place) = packed number place
+packedFold (Done n) = packedAnswer 0 n
+packedFold (Refused number place) = packedAnswer number place

@@ -2,21 +2,22 @@
 use Prim.Native.Nat.{ℕ, _+_, _*_}
 use mathlib.Core.Bool.{_&&_}
 use mathlib.Core.List.{List}
-use lib.Dec.{eqb, leb}
+use lib.Dec.{eqb}
 use lib.ListN.{length, getD, take, drop, replicate}
-use Rattle.scalar.specs.Pattern.{pick}
-use Rattle.shape.specs.declared.Instance.{Instance}
-use Rattle.shape.specs.declared.Outcome.{Outcome}
-use Rattle.shape.specs.Operand.{shapeOk}
+use Rattle.types.specs.Types.{knownOf}
+use Rattle.value.specs.Pattern.{pick}
+use Rattle.operand.specs.declared.Instance.{Instance}
+use Rattle.operand.specs.declared.Outcome.{Outcome}
+use Rattle.operand.specs.Operand.{shapeOk}
 use Rattle.slot.specs.Slot.{bytesOf}
 use Rattle.fields.specs.Field.{eight, sixteen}
-use Rattle.booth.specs.Answer.{packed}
+use Rattle.booth.specs.Answer.{packedAnswer}
 use Rattle.booth.specs.declared.direct.One.{One}
 use Rattle.booth.specs.declared.direct.One.the-variants as O
 
 -- no operand: its type is unknown and it has no shape, so that it is malformed
-abbrev pub nothing : Instance
-nothing = record { ty = 255; cols = 0; rows = 0; comps = replicate 16 0 }
+abbrev pub noOperand : Instance
+noOperand = record { ty = 255; cols = 0; rows = 0; comps = replicate 16 0 }
 
 -- type, columns, rows, then 8 bytes a component, low byte first, as many as the shape has; unused components are 0
 unfoldable pub operandIn : List ℕ → Instance
@@ -24,12 +25,12 @@ operandIn b =
     pick (shapeOk (getD b 0 0) (getD b 1 0) (getD b 2 0))
     (pick (eqb (length b) (3 + 8 * (getD b 1 0 * getD b 2 0)))
     (record { ty = getD b 0 0; cols = getD b 1 0; rows = getD b 2 0; comps = sixteen (take 128 (drop 3 b)) })
-    nothing)
-    nothing
+    noOperand)
+    noOperand
 
 -- ResultsSize if the slot is not 136 bytes; else the status and detail
 unfoldable pub directAnswer : List ℕ → Outcome → ℕ
-directAnswer slot o = pick (eqb (length slot) 136) (packed (o .status) (o .detail)) (packed 30 0)
+directAnswer slot o = pick (eqb (length slot) 136) (packedAnswer (o .status) (o .detail)) (packedAnswer 30 0)
 
 -- the slot is written on success alone
 unfoldable pub directBytes : List ℕ → Outcome → List ℕ
@@ -40,7 +41,7 @@ directBytes slot o = pick (eqb (length slot) 136 && eqb (o .status) 0) (bytesOf 
 unfoldable pub scalarIn : List ℕ → One
 scalarIn b =
     pick (eqb (length b) 11)
-    (pick (leb (getD b 0 0) 6 && eqb (getD b 1 0) 1 && eqb (getD b 2 0) 1)
+    (pick (knownOf (getD b 0 0) && eqb (getD b 1 0) 1 && eqb (getD b 2 0) 1)
     (O.Scalar (getD b 0 0) (eight (take 8 (drop 3 b))))
     O.Other)
     O.Other

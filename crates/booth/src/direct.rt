@@ -1,11 +1,11 @@
 // The direct calls: operands from bytes, and the value into a slot.
 use crate::pack;
-use shape::Instance;
-use shape::Outcome;
+use operand::Instance;
+use operand::Outcome;
 ghost use mathlib.Core.Path.{_≡_};
 ghost use Prim.Native.Nat.{_*_, _≤_};
-ghost use Rattle.shape.specs.Meaning.{binaryMeaning};
-ghost use Rattle.booth.specs.Operand.{nothing, operandIn, directAnswer, directBytes, scalarIn};
+ghost use Rattle.dispatch.specs.Meaning.{binaryMeaning};
+ghost use Rattle.booth.specs.Operand.{noOperand, operandIn, directAnswer, directBytes, scalarIn};
 
 // A scalar by its type and pattern, or other bytes.
 pub(crate) enum One {
@@ -21,8 +21,8 @@ fn area(cols: u8, rows: u8) -> usize
 }
 
 // No operand: its type is unknown and it has no shape.
-fn nothing() -> Instance
-    ensures { λ r. ⌜ r ≡ nothing ⌝ }
+fn no_operand() -> Instance
+    ensures { λ r. ⌜ r ≡ noOperand ⌝ }
 {
     Instance {
         ty: 255,
@@ -39,11 +39,11 @@ pub(crate) fn operand(b: &[u8]) -> Instance
     let ty = fields::byte(b, 0);
     let cols = fields::byte(b, 1);
     let rows = fields::byte(b, 2);
-    if !shape::shape_ok(ty, cols, rows) {
-        return nothing();
+    if !operand::shape_ok(ty, cols, rows) {
+        return no_operand();
     }
     if b.len() != 3 + 8 * area(cols, rows) {
-        return nothing();
+        return no_operand();
     }
     let comps = fields::numbers(fields::part(b, 3, 128));
     Instance {
@@ -61,7 +61,7 @@ pub(crate) fn one_in(b: &[u8]) -> One
     if b.len() != 11 {
         return One::Other;
     }
-    if !((b[0] <= 6) & (b[1] == 1) & (b[2] == 1)) {
+    if !(types::known(b[0]) & (b[1] == 1) & (b[2] == 1)) {
         return One::Other;
     }
     One::Scalar(b[0], fields::number(fields::part(b, 3, 8)))

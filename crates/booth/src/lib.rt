@@ -6,16 +6,16 @@ use direct::One;
 use fold::Folded;
 ghost use mathlib.Core.Path.{_≡_};
 ghost use lib.ListN.{length};
-ghost use Rattle.shape.specs.Meaning.{unaryMeaning, binaryMeaning};
+ghost use Rattle.dispatch.specs.Meaning.{unaryMeaning, binaryMeaning};
 ghost use Rattle.sheet.specs.Sheet.{readSheet, checkedOf};
 ghost use Rattle.fold.specs.Fresh.{foldedOf, freshAnswer, freshBytes};
 ghost use Rattle.fold.specs.Change.{changeAnswer, changeBytes};
-ghost use Rattle.booth.specs.Answer.{packed, packedFold};
+ghost use Rattle.booth.specs.Answer.{packedAnswer, packedFold};
 ghost use Rattle.booth.specs.Operand.{operandIn, directAnswer, directBytes};
 
 // A number and its detail in one.
 fn pack(number: u8, detail: u64) -> u64
-    ensures { λ r. ⌜ r ≡ packed number detail ⌝ }
+    ensures { λ r. ⌜ r ≡ packedAnswer number detail ⌝ }
 {
     (number as u64) * 0x1_0000_0000 + detail % 0x1_0000_0000
 }

@@ -1,14 +1,13 @@
-// The records of a list of fixed answers, read one at a time, and the count of those that are right.
-mod list;
-mod operand;
-mod tally;
+// Records of the lists of fixed answers on values: whether what they ask is answered as they say.
+pub mod operators;
+mod record;
+pub mod roundings;
+pub mod scalars;
+pub mod shapes;
+pub mod slots;
 
-pub use list::next;
-pub use list::open;
-pub use operand::Operand;
-pub use operand::read_operand;
-pub use tally::Tally;
-pub use tally::counted;
-pub use tally::ended;
-pub use tally::say;
-pub use tally::start;
+// Whether a packed answer is what a record says: a number in one byte, and its detail in four.
+pub fn answers(answer: u64, said: &[u8]) -> bool {
+    (answer / 0x1_0000_0000 == fields::byte(said, 0) as u64)
+        & (answer % 0x1_0000_0000 == fields::word(said, 1) as u64)
+}

@@ -2,7 +2,7 @@
 ghost use Prim.Native.Nat.{_+_, _*_, _^_, _<_};
 use words::Spelled;
 
-// An entry, a type from 0 to 6 and 8 bytes of content; or the number of the first word that is none.
+// An entry, the code of a type and 8 bytes of content; or the number of the first word that is none.
 pub enum Asked {
     Change(u64, u8, u64),
     Bad(usize),
@@ -18,13 +18,17 @@ pub(crate) fn change_at(line: &[u8], k: usize) -> Asked
     let Spelled::Number(ty) = words::decimal(words::word(line, k + 1)) else {
         return Asked::Bad(k + 1);
     };
-    if 6 < ty {
+    if 255 < ty {
+        return Asked::Bad(k + 1);
+    }
+    let code = ty as u8;
+    if !types::known(code) {
         return Asked::Bad(k + 1);
     }
     let Spelled::Number(bits) = words::hex(words::word(line, k + 2)) else {
         return Asked::Bad(k + 2);
     };
-    Asked::Change(entry, ty as u8, bits)
+    Asked::Change(entry, code, bits)
 }
 
 // The number of the first word that is none of a change's, among n changes from word `from` on; 0 where there is no such word.

@@ -61,9 +61,9 @@ unfolding nth
 sixteen-one s h = reading-all (reading-more (eight s) (reading-none s) (omega arith) (ap (λ (l : List ℕ). eight l) (sym (take-all 8 s h)))) (λ _. h)
 
 -- the loop goes on only where a number is left to read
-pub on : (i : ℕ) (b : Bool) → (ltb i 16 && b) ≡ true → i < 16
-on i b e = ltb-true i 16 (and-eq-true-iff (ltb i 16) b .0 e .0)
+pub reading-on : (i : ℕ) (b : Bool) → (ltb i 16 && b) ≡ true → i < 16
+reading-on i b e = ltb-true i 16 (and-eq-true-iff (ltb i 16) b .0 e .0)
 
 -- it ends before the sixteenth only where its other test fails
-pub stop : (i : ℕ) (b : Bool) → (ltb i 16 && b) ≡ false → i < 16 → b ≡ false
-stop i b e h = rw (lt-ltb i 16 h) at e
+pub reading-stop : (i : ℕ) (b : Bool) → (ltb i 16 && b) ≡ false → i < 16 → b ≡ false
+reading-stop i b e h = rw (lt-ltb i 16 h) at e

@@ -18,32 +18,28 @@ fn wide(x: u8) -> u64
     x as u64
 }
 
-// The number in the first four bytes.
-fn low_four(s: &[u8]) -> u64
-    ensures { λ r. ⌜ (r ≡ four (now (s .entry)) 0) × (r < 4294967296) ⌝ }
+// The number in the first four bytes, or in the four after those.
+fn four_from(s: &[u8], at: usize) -> u64
+    requires { ⌜ at ≤ 4 ⌝ }
+    ensures { λ r. ⌜ (r ≡ four (now (s .entry)) at) × (r < 4294967296) ⌝ }
 {
-    wide(byte(s, 0)) + 256 * (wide(byte(s, 1)) + 256 * (wide(byte(s, 2)) + 256 * wide(byte(s, 3))))
-}
-
-// The number in the four bytes after those.
-fn high_four(s: &[u8]) -> u64
-    ensures { λ r. ⌜ (r ≡ four (now (s .entry)) 4) × (r < 4294967296) ⌝ }
-{
-    wide(byte(s, 4)) + 256 * (wide(byte(s, 5)) + 256 * (wide(byte(s, 6)) + 256 * wide(byte(s, 7))))
+    wide(byte(s, at))
+        + 256
+            * (wide(byte(s, at + 1)) + 256 * (wide(byte(s, at + 2)) + 256 * wide(byte(s, at + 3))))
 }
 
 // The number in the four bytes at a place, low byte first.
 pub fn word(s: &[u8], at: usize) -> u32
     ensures { λ r. ⌜ r ≡ four (take 4 (drop at (now (s .entry)))) 0 ⌝ }
 {
-    low_four(part(s, at, 4)) as u32
+    four_from(part(s, at, 4), 0) as u32
 }
 
 // The number in the first eight bytes, low byte first.
 pub fn number(s: &[u8]) -> u64
     ensures { λ r. ⌜ r ≡ eight (now (s .entry)) ⌝ }
 {
-    low_four(s) + 0x1_0000_0000 * high_four(s)
+    four_from(s, 0) + 0x1_0000_0000 * four_from(s, 4)
 }
 
 // The n bytes at a place, or those of them that are there.

@@ -8,42 +8,37 @@ use native.Mathlib.Omega.{arith}
 use lib.Dec.{eqb, ltb}
 use lib.ListN.{length, replicate, List·getD-eq-default}
 use borrow.Author.Tests.{eq-eqb, ne-eqb, eqb-true, lt-ltb, not-true, not-false}
-use Rattle.scalar.specs.Pattern.{pick, properOf, keptOf}
+use Rattle.value.specs.Pattern.{pick, properOf, keptOf}
 use Rattle.slot.proofs.Parts.{le-or-lt}
 use Rattle.sheet.specs.declared.Checked.{Checked}
 use Rattle.sheet.specs.declared.Checked.the-variants as checked
-use Rattle.sheet.specs.declared.Head.{Head}
-use Rattle.sheet.specs.declared.Head.the-variants as head
-use Rattle.sheet.specs.Read.{Read, found, refused, need}
+use Rattle.sheet.specs.Read.{Read, found, refused, must}
 use Rattle.sheet.specs.Tree.{Entry}
 use Rattle.sheet.specs.Node.{readLiteral, literalIn}
-use Rattle.sheet.specs.Record.{readHead, partOf}
+use Rattle.sheet.specs.Record.{bodyAt}
 use Rattle.sheet.specs.Sheet.{readSheet, checkedOf}
 use Rattle.sheet.proofs.Sheets.{sheet-good, was-good, was-bad}
-use Rattle.shape.specs.declared.Instance.{Instance}
+use Rattle.operand.specs.declared.Instance.{Instance}
 use Rattle.fold.specs.declared.Folded.{Folded}
 use Rattle.fold.specs.declared.Folded.the-variants.{Done, Refused}
+use Rattle.fold.specs.declared.spans.Span.{Span}
 use Rattle.fold.specs.declared.turns.Setting.{Setting}
 use Rattle.fold.specs.declared.turns.Setting.the-variants.{Of, None}
 use Rattle.fold.specs.Fresh.{entryAt, meansOf, refsOf, foldedOf, freshAnswer, freshBytes}
-use Rattle.fold.specs.Change.{content, isSetting, typeOf, faultOf, depends, changed, tally, changeAnswer, changeBytes, changeMarks, contentBytes}
-use Rattle.fold.specs.Inside.{At, SettingAt, Accepted, FillsAll, Found, Judged, Ready, Applied}
-use Rattle.fold.proofs.Places.{at-read, at-body, no-setting, the-setting}
+use Rattle.fold.specs.Change.{content, isSetting, settingType, faultOf, depends, changed, tally, changeAnswer, changeBytes, changeMarks, contentBytes}
+use Rattle.fold.specs.Inside.{At, SpanAt, SettingAt, Accepted, FillsAll, Found, Judged, Ready, Applied}
+use Rattle.fold.proofs.Places.{no-setting, the-setting}
 
 -- ---- what the record at a place says of a setting
-module _ (s : List ℕ) (at : ℕ) (r : Head) (e : r ≡ readHead s at) where
-  pub setting-none : (n q : ℕ) → r ≡ head.Refused n q → SettingAt s at None
-  unfolding SettingAt
-  setting-none n q h = λ es k p more. absurd (at-read s es k at p more r e n q h)
+module _ (s : List ℕ) (at : ℕ) (r : Span) (w : SpanAt s at r) where
+  pub setting-not : (r .stage ≡ 3 → ⊥) → SettingAt s at None
+  unfolding SettingAt SpanAt
+  setting-not ne = λ es k p more. no-setting (r .stage) _ (entryAt es k) (w es k p more .body) ne
 
-  module _ (g start len : ℕ) (q : r ≡ head.Record g start len) where
-    pub setting-not : (g ≡ 3 → ⊥) → SettingAt s at None
-    unfolding SettingAt
-    setting-not ne = λ es k p more. no-setting g (partOf s start len) (entryAt es k) (at-body s es k at p more r e g start len q (partOf s start len) refl) ne
-
-    pub setting-is : g ≡ 3 → (b : List ℕ) → b ≡ partOf s start len → (v : Instance) → v ≡ literalIn (readLiteral false b 0) .value → SettingAt s at (Of (v .ty))
-    unfolding SettingAt
-    setting-is h b w v x = λ es k p more. the-setting g b (entryAt es k) (at-body s es k at p more r e g start len q b w) h v x
+  pub setting-read : r .stage ≡ 3 → (b : List ℕ) → b ≡ bodyAt s (r .start) (r .len) → (v : Instance) → v ≡ literalIn (readLiteral false b 0) .value
+      → SettingAt s at (Of (v .ty))
+  unfolding SettingAt SpanAt
+  setting-read h b e v x = λ es k p more. the-setting (r .stage) b (entryAt es k) (rw e (w es k p more .body)) h v x
 
 -- ---- new content
 pub content-is : (ty bits k : ℕ) → k ≡ keptOf ty bits → record { ty = ty; cols = 1; rows = 1; comps = k ∷ replicate 15 0 } ≡ content ty bits
@@ -58,10 +53,11 @@ past-no-setting es i h = ap isSetting (List·getD-eq-default es _ h)
 pub setting-among : (es : List Entry) (i : ℕ) → isSetting (entryAt es i) ≡ true → i < length es
 setting-among es i e = ⊎-elim (λ (h : length es ≤ i). absurd (false≢true (sym (past-no-setting es i h) ∙ e))) (λ (h : i < length es). h) (le-or-lt (length es) i)
 
-said : (e : Entry) (x : Setting) → x ≡ pick (isSetting e) (Of (typeOf e)) None → (x ≡ None → isSetting e ≡ false) × ((own : ℕ) → x ≡ Of own → (isSetting e ≡ true) × (typeOf e ≡ own))
+said : (e : Entry) (x : Setting) → x ≡ pick (isSetting e) (Of (settingType e)) None
+    → (x ≡ None → isSetting e ≡ false) × ((own : ℕ) → x ≡ Of own → (isSetting e ≡ true) × (settingType e ≡ own))
 said e x h = go (isSetting e) h
   where
-    go : (b : Bool) → x ≡ pick b (Of (typeOf e)) None → (x ≡ None → b ≡ false) × ((own : ℕ) → x ≡ Of own → (b ≡ true) × (typeOf e ≡ own))
+    go : (b : Bool) → x ≡ pick b (Of (settingType e)) None → (x ≡ None → b ≡ false) × ((own : ℕ) → x ≡ Of own → (b ≡ true) × (settingType e ≡ own))
     go true q = (λ z. absurd (let y : _≡_ {A = ℕ} 0 1 = cc in omega arith), λ own z. (refl, cc))
     go false q = (λ z. refl, λ own z. absurd (let y : _≡_ {A = ℕ} 0 1 = cc in omega arith))
 
@@ -70,63 +66,69 @@ module _ (s : List ℕ) (size n at i ty bits : ℕ) (b : Bool) (e : b ≡ eqb si
   size-is es h c q = ap (λ (k : ℕ). eqb size (136 * k)) h ∙ sym e ∙ q
 
   pub judged-size : not b ≡ true → Judged s size n at i ty bits 30
-  unfolding Judged faultOf need
+  unfolding Judged faultOf must
   judged-size q = λ es p c. rw (size-is es c false (not-true b q))
 
   module _ (q : not b ≡ false) where
     pub judged-past : n ≤ i → Judged s size n at i ty bits 31
-    unfolding Judged faultOf need
+    unfolding Judged faultOf must
     judged-past h = λ es p c. rw (size-is es c true (not-false b q), past-no-setting es i (omega arith))
 
     module _ (among : i < n) (x : Setting) (f : SettingAt s at x) where
-      told : (es : List Entry) → At s es (pick (ltb i n) i n) at → length es ≡ n → x ≡ pick (isSetting (entryAt es i)) (Of (typeOf (entryAt es i))) None
+      setting-said : (es : List Entry) → At s es (pick (ltb i n) i n) at → length es ≡ n → x ≡ pick (isSetting (entryAt es i)) (Of (settingType (entryAt es i))) None
       unfolding SettingAt
-      told es p c = f es i (let h : pick (ltb i n) i n ≡ i = rw (lt-ltb i n among) in rw h at p) (omega arith)
+      setting-said es p c = f es i (let h : pick (ltb i n) i n ≡ i = rw (lt-ltb i n among) in rw h at p) (omega arith)
 
       pub judged-none : x ≡ None → Judged s size n at i ty bits 31
-      unfolding Judged faultOf need
-      judged-none h = λ es p c. rw (size-is es c true (not-false b q), said (entryAt es i) x (told es p c) .0 h)
+      unfolding Judged faultOf must
+      judged-none h = λ es p c. rw (size-is es c true (not-false b q), said (entryAt es i) x (setting-said es p c) .0 h)
 
-      module _ (own : ℕ) (h : x ≡ Of own) (a : Bool) (g : a ≡ properOf ty bits) where
-        pub judged-value : not a ≡ true → Judged s size n at i ty bits 26
-        unfolding Judged faultOf need
-        judged-value z = λ es p c.
-            let w = said (entryAt es i) x (told es p c) .1 own h in
-            rw (size-is es c true (not-false b q), w .0, ← g, not-true a z)
+      pub judged-content : (own : ℕ) → x ≡ Of own → (r : ℕ) → r ≡ must (properOf ty bits) 26 (must (eqb ty own) 32 0) → Judged s size n at i ty bits r
+      unfolding Judged faultOf must
+      judged-content own h r g = λ es p c.
+          let w = said (entryAt es i) x (setting-said es p c) .1 own h in
+          rw (size-is es c true (not-false b q), w .0, w .1) g
 
-        pub judged-type : not a ≡ false → ty ≢ own → Judged s size n at i ty bits 32
-        unfolding Judged faultOf need
-        judged-type z ne = λ es p c.
-            let w = said (entryAt es i) x (told es p c) .1 own h in
-            rw (size-is es c true (not-false b q), w .0, ← g, not-false a z, w .1, ne-eqb ty own ne)
+-- new content against the setting's own type
+module _ (ty bits own : ℕ) (a : Bool) (g : a ≡ properOf ty bits) where
+  pub content-value : not a ≡ true → _≡_ {A = ℕ} 26 (must (properOf ty bits) 26 (must (eqb ty own) 32 0))
+  unfolding must
+  content-value z = rw (← g, not-true a z)
 
-        pub judged-fine : not a ≡ false → ty ≡ own → Judged s size n at i ty bits 0
-        unfolding Judged faultOf need
-        judged-fine z same = λ es p c.
-            let w = said (entryAt es i) x (told es p c) .1 own h in
-            rw (size-is es c true (not-false b q), w .0, ← g, not-false a z, w .1, eq-eqb ty own same)
+  pub content-type : not a ≡ false → ty ≢ own → _≡_ {A = ℕ} 32 (must (properOf ty bits) 26 (must (eqb ty own) 32 0))
+  unfolding must
+  content-type z ne = rw (← g, not-false a z, ne-eqb ty own ne)
+
+  pub content-fits : not a ≡ false → ty ≡ own → _≡_ {A = ℕ} 0 (must (properOf ty bits) 26 (must (eqb ty own) 32 0))
+  unfolding must
+  content-fits z same = rw (← g, not-false a z, eq-eqb ty own same)
 
 -- what a change that no check refuses has passed
-pub record Fine (es : List Entry) (size i ty bits : ℕ) : Type 0 where
+pub record NoFault (es : List Entry) (size i ty bits : ℕ) : Type 0 where
   pub sized : size ≡ 136 * length es
   pub setting : isSetting (entryAt es i) ≡ true
   pub among : i < length es
   pub proper : properOf ty bits ≡ true
 
-passed : (t : Bool) (n x : ℕ) → (n ≡ 0 → ⊥) → need t n x ≡ 0 → (t ≡ true) × (x ≡ 0)
-unfolding need
-passed true n x ne h = (refl, h)
-passed false n x ne h = absurd (ne h)
+need-zero : (t : Bool) (n x : ℕ) → (n ≡ 0 → ⊥) → must t n x ≡ 0 → (t ≡ true) × (x ≡ 0)
+unfolding must
+need-zero true n x ne h = (refl, h)
+need-zero false n x ne h = absurd (ne h)
 
-pub fine : (es : List Entry) (size i ty bits : ℕ) → faultOf es size i ty bits ≡ 0 → Fine es size i ty bits
+pub no-fault : (es : List Entry) (size i ty bits : ℕ) → faultOf es size i ty bits ≡ 0 → NoFault es size i ty bits
 unfolding faultOf
-fine es size i ty bits e =
-    let p = passed _ 30 _ (λ z. omega arith) e in
-    let q = passed _ 31 _ (λ z. omega arith) (p .1) in
-    let r = passed _ 26 _ (λ z. omega arith) (q .1) in
+no-fault es size i ty bits e =
+    let p = need-zero _ 30 _ (λ z. omega arith) e in
+    let q = need-zero _ 31 _ (λ z. omega arith) (p .1) in
+    let r = need-zero _ 26 _ (λ z. omega arith) (q .1) in
     record { sized = eqb-true size (136 * length es) (p .0); setting = q .0; among = setting-among es i (q .0); proper = r .0 }
 
 -- ---- the calls
+-- what a change answers and leaves, as its contract says it
+abbrev Changes : List ℕ → List ℕ → ℕ → ℕ → ℕ → List Bool → Folded → List ℕ → List Bool → Type 0
+Changes s l i ty bits ms a r ns =
+    (a ≡ changeAnswer (readSheet s) l i ty bits) × (r ≡ changeBytes (readSheet s) l i ty bits) × (ns ≡ changeMarks (readSheet s) l i ty bits ms)
+
 module _ (s : List ℕ) (x : Checked) (e : x ≡ checkedOf (readSheet s)) where
   module _ (k p : ℕ) (q : x ≡ checked.Refused k p) (r : Folded) (h : r ≡ foldedOf x) (l : List ℕ) where
     was : readSheet s ≡ refused k p
@@ -136,7 +138,7 @@ module _ (s : List ℕ) (x : Checked) (e : x ≡ checkedOf (readSheet s)) where
     unfolding freshAnswer freshBytes
     fresh-bad = (h ∙ ap foldedOf q ∙ ap (λ (y : Read (List Entry)). freshAnswer y l) (sym was), ap (λ (y : Read (List Entry)). freshBytes y l) (sym was))
 
-    pub change-bad : (i ty bits : ℕ) (ms : List Bool) → (r ≡ changeAnswer (readSheet s) l i ty bits) × (l ≡ changeBytes (readSheet s) l i ty bits) × (ms ≡ changeMarks (readSheet s) l i ty bits ms)
+    pub change-bad : (i ty bits : ℕ) (ms : List Bool) → Changes s l i ty bits ms r l ms
     unfolding changeAnswer changeBytes changeMarks
     change-bad i ty bits ms = (
       h ∙ ap foldedOf q ∙ ap (λ (y : Read (List Entry)). changeAnswer y l i ty bits) (sym was),
@@ -159,11 +161,11 @@ module _ (s : List ℕ) (x : Checked) (e : x ≡ checkedOf (readSheet s)) where
       same-size c h = ap (λ (k : ℕ). eqb (length l) (136 * k)) (read .3) ∙ sym f ∙ h
 
       pub fresh-size : not b ≡ true → (Refused 30 0 ≡ freshAnswer (readSheet s) l) × (l ≡ freshBytes (readSheet s) l)
-      unfolding freshAnswer freshBytes need
+      unfolding freshAnswer freshBytes must
       fresh-size h = (rw (read .2, same-size false (not-true b h)), rw (read .2, same-size false (not-true b h)))
 
       pub fresh-done : not b ≡ false → (r : List ℕ) → FillsAll s n l r → (Done n ≡ freshAnswer (readSheet s) l) × (r ≡ freshBytes (readSheet s) l)
-      unfolding freshAnswer freshBytes need FillsAll
+      unfolding freshAnswer freshBytes must FillsAll
       fresh-done h r g = (
         rw (read .2, same-size true (not-false b h)) (ap Done (sym (read .3))),
         rw (read .2, same-size true (not-false b h)) (g (read .0) first (read .3)),
@@ -174,13 +176,13 @@ module _ (s : List ℕ) (x : Checked) (e : x ≡ checkedOf (readSheet s)) where
       unfolding Found Judged
       judged = j (read .0) (f (read .0) first (read .3)) (read .3)
 
-      pub change-fault : fault ≢ 0 → (ms : List Bool) → (Refused fault 0 ≡ changeAnswer (readSheet s) l i ty bits) × (l ≡ changeBytes (readSheet s) l i ty bits) × (ms ≡ changeMarks (readSheet s) l i ty bits ms)
+      pub change-fault : fault ≢ 0 → (ms : List Bool) → Changes s l i ty bits ms (Refused fault 0) l ms
       unfolding changeAnswer changeBytes changeMarks
       change-fault ne ms = (rw (read .2, ← judged, ne-eqb fault 0 ne), rw (read .2, ← judged, ne-eqb fault 0 ne), rw (read .2, ← judged, ne-eqb fault 0 ne))
 
       module _ (z : fault ≡ 0) where
-        ok : Fine (read .0) (length l) i ty bits
-        ok = fine (read .0) (length l) i ty bits (sym judged ∙ z)
+        ok : NoFault (read .0) (length l) i ty bits
+        ok = no-fault (read .0) (length l) i ty bits (sym judged ∙ z)
 
         pub among : i < n
         among = omega (arith, ok .among, read .3)
@@ -193,7 +195,7 @@ module _ (s : List ℕ) (x : Checked) (e : x ≡ checkedOf (readSheet s)) where
         ready = record { entries = read .0; first = first; here = here; count = read .3; among = among }
 
         pub change-done : (r : List ℕ) (ms ns : List Bool) (count : ℕ) → Applied s n i at ty bits l r ns count
-            → (Done count ≡ changeAnswer (readSheet s) l i ty bits) × (r ≡ changeBytes (readSheet s) l i ty bits) × (ns ≡ changeMarks (readSheet s) l i ty bits ms)
+            → Changes s l i ty bits ms (Done count) r ns
         unfolding changeAnswer changeBytes changeMarks Applied
         change-done r ms ns count g =
             let w = g (read .0) first here (read .3) in (

@@ -9,30 +9,30 @@ use native.Mathlib.Omega.{arith}
 use lib.Dec.{eqb}
 use lib.ListN.{length}
 use borrow.Author.Tests.{eq-eqb, ne-eqb, eqb-true}
-use Rattle.scalar.specs.Pattern.{pick}
+use Rattle.value.specs.Pattern.{pick}
 use Rattle.slot.specs.Slot.{slot}
-use Rattle.fold.specs.Fresh.{Means, worked}
-use Rattle.fold.specs.Change.{any, depends, touched, over, changed, tally}
+use Rattle.fold.specs.Fresh.{Means, evaluated}
+use Rattle.fold.specs.Change.{depends, touched, withContent, changed, tally}
 use Rattle.fold.specs.Demand.{Leads, Changed}
-use Rattle.fold.proofs.Worked.{Filled, Local, alike, only, filled}
+use Rattle.fold.proofs.Evaluated.{Filled, Local, alike, only, is-filled}
 use Rattle.fold.proofs.Depend.{or-cases, or-none, touched-self, untouched-uses, depends-leads, leads-after, touched-leads, not-touched, depends-tells, tells-tally}
 
 -- all n entries worked out
-abbrev pub all : Means → ℕ → List ℕ → List ℕ
-all m n l = worked m (λ k. true) n l
+abbrev pub evaluatedAll : Means → ℕ → List ℕ → List ℕ
+evaluatedAll m n l = evaluated m (λ k. true) n l
 
 -- meanings that look at earlier entries alone
 pub record Ordered (m : Means) (refs : ℕ → List ℕ) : Type 0 where
   pub earlier : (k j : ℕ) → List·Memᴰ j (refs k) → j < k
   pub local : Local (λ k j. List·Memᴰ j (refs k)) m
 
-pub over-here : (m : Means) (i : ℕ) (c l : List ℕ) → over m i c i l ≡ c
-unfolding over
-over-here m i c l = rw (eq-eqb i i refl)
+pub content-here : (m : Means) (i : ℕ) (c l : List ℕ) → withContent m i c i l ≡ c
+unfolding withContent
+content-here m i c l = rw (eq-eqb i i refl)
 
-pub over-there : (m : Means) (i : ℕ) (c : List ℕ) (k : ℕ) (l : List ℕ) → k ≢ i → over m i c k l ≡ m k l
-unfolding over
-over-there m i c k l ne = rw (ne-eqb k i ne)
+pub content-elsewhere : (m : Means) (i : ℕ) (c : List ℕ) (k : ℕ) (l : List ℕ) → k ≢ i → withContent m i c k l ≡ m k l
+unfolding withContent
+content-elsewhere m i c k l ne = rw (ne-eqb k i ne)
 
 or-left-of : (a b : Bool) → b ≡ false → (a || b) ≡ true → a ≡ true
 or-left-of true b e o = refl
@@ -44,9 +44,9 @@ module _ (m : Means) (refs : ℕ → List ℕ) (ord : Ordered m refs) where
 
   -- i is an entry among n, c its new content
   module _ (i n : ℕ) (among : i < n) (c : List ℕ) (wide : length c ≡ 136) where
-    over-local : Local Uses (over m i c)
-    unfolding over
-    over-local =
+    content-local : Local Uses (withContent m i c)
+    unfolding withContent
+    content-local =
         record {
           wide = λ k l. w (eqb k i) k l;
           same = λ k l r f. s (eqb k i) k l r f;
@@ -60,11 +60,18 @@ module _ (m : Means) (refs : ℕ → List ℕ) (ord : Ordered m refs) where
         s true k l r f = refl
         s false k l r f = ord .local .same k l r f
 
-    pub over-ordered : Ordered (over m i c) refs
-    over-ordered = record { earlier = ord .earlier; local = over-local }
+    pub content-ordered : Ordered (withContent m i c) refs
+    content-ordered = record { earlier = ord .earlier; local = content-local }
+
+    -- the buffer after a change
+    abbrev after : List ℕ → List ℕ
+    after l = evaluated (withContent m i c) (touched refs i) n l
+
+    change-filled : (l : List ℕ) → length l ≡ 136 * n → Filled (withContent m i c) (touched refs i) n l (after l)
+    change-filled l long = is-filled Uses (ord .earlier) (withContent m i c) content-local (touched refs i) n l long
 
     -- what the demand asks of the buffer is what working out gives
-    asked-filled : (l r : List ℕ) (count : ℕ) → Changed m refs i c n l r count → Filled (over m i c) (touched refs i) n l r
+    asked-filled : (l r : List ℕ) (count : ℕ) → Changed m refs i c n l r count → Filled (withContent m i c) (touched refs i) n l r
     asked-filled l r count p =
         record {
           long = p .long;
@@ -72,8 +79,8 @@ module _ (m : Means) (refs : ℕ → List ℕ) (ord : Ordered m refs) where
               p .kept k h (λ q. false≢true (sym e ∙ ap (touched refs i) q ∙ touched-self refs i (ord .earlier))) (λ q. false≢true (sym e ∙ touched-leads refs i (ord .earlier) q));
           works = λ k h e.
               ⊎-elim
-              (λ t. let q = eqb-true k i t in rw q (p .own ∙ sym (over-here m i c r)))
-              (λ t. let q = depends-leads refs i (ord .earlier) k t in p .works k h q ∙ sym (over-there m i c k r (λ z. let b = leads-after refs i (ord .earlier) q in omega arith)))
+              (λ t. let q = eqb-true k i t in rw q (p .own ∙ sym (content-here m i c r)))
+              (λ t. let q = depends-leads refs i (ord .earlier) k t in p .works k h q ∙ sym (content-elsewhere m i c k r (λ z. let b = leads-after refs i (ord .earlier) q in omega arith)))
               (or-cases (eqb k i) _ e);
         }
 
@@ -84,53 +91,53 @@ module _ (m : Means) (refs : ℕ → List ℕ) (ord : Ordered m refs) where
         record {
           long = p .long;
           kept = λ k h ne nl. p .kept k h (not-touched refs i (ord .earlier) k ne nl);
-          own = p .works i among (touched-self refs i (ord .earlier)) ∙ over-here m i c _;
-          works = λ k h q. p .works k h (touched-leads refs i (ord .earlier) q) ∙ over-there m i c k _ (λ z. let b = leads-after refs i (ord .earlier) q in omega arith);
+          own = p .works i among (touched-self refs i (ord .earlier)) ∙ content-here m i c _;
+          works = λ k h q. p .works k h (touched-leads refs i (ord .earlier) q) ∙ content-elsewhere m i c k _ (λ z. let b = leads-after refs i (ord .earlier) q in omega arith);
           counted = λ t s. tells-tally refs i n (depends refs i) t (depends-tells refs i (ord .earlier) n) s;
         }
       where
-        p : Filled (over m i c) (touched refs i) n l (worked (over m i c) (touched refs i) n l)
-        p = filled Uses (ord .earlier) (over m i c) over-local (touched refs i) n l long
+        p : Filled (withContent m i c) (touched refs i) n l (after l)
+        p = change-filled l long
 
     -- and nothing else is
     pub changed-only : (l r : List ℕ) (count : ℕ) → length l ≡ 136 * n → Changed m refs i c n l r count → (r ≡ changed m refs i c n l) × (count ≡ tally (depends refs i) n)
     unfolding changed
     changed-only l r count long p = (
-      only Uses (ord .earlier) (over m i c) over-local (touched refs i) n l _ _ (asked-filled l r count p) (filled Uses (ord .earlier) (over m i c) over-local (touched refs i) n l long),
+      only Uses (ord .earlier) (withContent m i c) content-local (touched refs i) n l _ _ (asked-filled l r count p) (change-filled l long),
       p .counted (depends refs i) (depends-tells refs i (ord .earlier) n),
     )
 
     -- fresh results become the fresh results for the changed setting
-    pub changed-fresh : (l : List ℕ) → length l ≡ 136 * n → changed m refs i c n (all m n l) ≡ all (over m i c) n l
+    pub changed-fresh : (l : List ℕ) → length l ≡ 136 * n → changed m refs i c n (evaluatedAll m n l) ≡ evaluatedAll (withContent m i c) n l
     unfolding changed
     changed-fresh l long =
-        alike Uses (ord .earlier) (over m i c) over-local n _ _ (λ k h. inr (by k h (touched refs i k) refl, new .works k h refl)) (did .long) (new .long)
+        alike Uses (ord .earlier) (withContent m i c) content-local n _ _ (λ k h. inr (by k h (touched refs i k) refl, new .works k h refl)) (did .long) (new .long)
       where
-        old : Filled m (λ k. true) n l (all m n l)
-        old = filled Uses (ord .earlier) m (ord .local) (λ k. true) n l long
+        old : Filled m (λ k. true) n l (evaluatedAll m n l)
+        old = is-filled Uses (ord .earlier) m (ord .local) (λ k. true) n l long
 
-        did : Filled (over m i c) (touched refs i) n (all m n l) (worked (over m i c) (touched refs i) n (all m n l))
-        did = filled Uses (ord .earlier) (over m i c) over-local (touched refs i) n (all m n l) (old .long)
+        did : Filled (withContent m i c) (touched refs i) n (evaluatedAll m n l) (after (evaluatedAll m n l))
+        did = change-filled (evaluatedAll m n l) (old .long)
 
-        new : Filled (over m i c) (λ k. true) n l (all (over m i c) n l)
-        new = filled Uses (ord .earlier) (over m i c) over-local (λ k. true) n l long
+        new : Filled (withContent m i c) (λ k. true) n l (evaluatedAll (withContent m i c) n l)
+        new = is-filled Uses (ord .earlier) (withContent m i c) content-local (λ k. true) n l long
 
-        by : (k : ℕ) → k < n → (b : Bool) → touched refs i k ≡ b → slot (worked (over m i c) (touched refs i) n (all m n l)) k ≡ over m i c k (worked (over m i c) (touched refs i) n (all m n l))
+        by : (k : ℕ) → k < n → (b : Bool) → touched refs i k ≡ b → slot (after (evaluatedAll m n l)) k ≡ withContent m i c k (after (evaluatedAll m n l))
         by k h true e = did .works k h e
         by k h false e =
             did .kept k h e ∙ old .works k h refl
-            ∙ sym (over-there m i c k (all m n l) (λ q. false≢true (sym e ∙ ap (touched refs i) q ∙ touched-self refs i (ord .earlier))))
-            ∙ over-local .same k _ _ (λ j u. let b = ord .earlier k j u in sym (did .kept j (omega arith) (untouched-uses refs i (ord .earlier) k j e u)))
+            ∙ sym (content-elsewhere m i c k (evaluatedAll m n l) (λ q. false≢true (sym e ∙ ap (touched refs i) q ∙ touched-self refs i (ord .earlier))))
+            ∙ content-local .same k _ _ (λ j u. let b = ord .earlier k j u in sym (did .kept j (omega arith) (untouched-uses refs i (ord .earlier) k j e u)))
 
   -- fresh results do not depend on what the buffer held
-  pub all-any : (n : ℕ) (l r : List ℕ) → length l ≡ 136 * n → length r ≡ 136 * n → all m n l ≡ all m n r
+  pub all-any : (n : ℕ) (l r : List ℕ) → length l ≡ 136 * n → length r ≡ 136 * n → evaluatedAll m n l ≡ evaluatedAll m n r
   all-any n l r hl hr = alike Uses (ord .earlier) m (ord .local) n _ _ (λ k h. inr (x .works k h refl, y .works k h refl)) (x .long) (y .long)
     where
-      x : Filled m (λ k. true) n l (all m n l)
-      x = filled Uses (ord .earlier) m (ord .local) (λ k. true) n l hl
+      x : Filled m (λ k. true) n l (evaluatedAll m n l)
+      x = is-filled Uses (ord .earlier) m (ord .local) (λ k. true) n l hl
 
-      y : Filled m (λ k. true) n r (all m n r)
-      y = filled Uses (ord .earlier) m (ord .local) (λ k. true) n r hr
+      y : Filled m (λ k. true) n r (evaluatedAll m n r)
+      y = is-filled Uses (ord .earlier) m (ord .local) (λ k. true) n r hr
 
 -- ---- two settings
 module _ (m : Means) (refs : ℕ → List ℕ) (ord : Ordered m refs) (n : ℕ) (l : List ℕ) (long : length l ≡ 136 * n) where
@@ -140,56 +147,64 @@ module _ (m : Means) (refs : ℕ → List ℕ) (ord : Ordered m refs) (n : ℕ) 
     where
       none : Leads refs j i → ⊥
       none (Leads.direct h) = mathlib.Core.List.List·Memᴰ·not-nil (rw e at h)
-      none (Leads.through h q) = mathlib.Core.List.List·Memᴰ·not-nil (rw e at h)
+      none (Leads.chained h q) = mathlib.Core.List.List·Memᴰ·not-nil (rw e at h)
 
   -- the buffer after both
   both : (i j : ℕ) (a b : List ℕ) → i < n → j < n → i ≢ j → refs i ≡ [] → length a ≡ 136 → length b ≡ 136
-      → Filled (over (over m i a) j b) (λ k. touched refs i k || touched refs j k) n l (changed m refs j b n (changed m refs i a n l))
-  unfolding changed over
+      → Filled (withContent (withContent m i a) j b) (λ k. touched refs i k || touched refs j k) n l (changed m refs j b n (changed m refs i a n l))
+  unfolding changed withContent
   both i j a b hi hj ne si la lb =
-      record { long = q .long; kept = λ k h e. q .kept k h (or-none (touched refs i k) _ e .1) ∙ p .kept k h (or-none (touched refs i k) _ e .0); works = λ k h e. by k h (touched refs j k) refl e }
+      record {
+        long = q .long;
+        kept = λ k h e. let none = or-none (touched refs i k) _ e in q .kept k h (none .1) ∙ p .kept k h (none .0);
+        works = λ k h e. by k h (touched refs j k) refl e;
+      }
     where
       one : List ℕ
-      one = worked (over m i a) (touched refs i) n l
+      one = evaluated (withContent m i a) (touched refs i) n l
 
-      loc : Local (λ k j. List·Memᴰ j (refs k)) (over m i a)
-      loc = over-local m refs ord i n hi a la
+      loc : Local (λ k j. List·Memᴰ j (refs k)) (withContent m i a)
+      loc = content-local m refs ord i n hi a la
 
-      p : Filled (over m i a) (touched refs i) n l one
-      p = filled (λ k j. List·Memᴰ j (refs k)) (ord .earlier) (over m i a) loc (touched refs i) n l long
+      p : Filled (withContent m i a) (touched refs i) n l one
+      p = is-filled (λ k j. List·Memᴰ j (refs k)) (ord .earlier) (withContent m i a) loc (touched refs i) n l long
 
-      q : Filled (over m j b) (touched refs j) n one (worked (over m j b) (touched refs j) n one)
-      q = filled (λ k j. List·Memᴰ j (refs k)) (ord .earlier) (over m j b) (over-local m refs ord j n hj b lb) (touched refs j) n one (p .long)
+      q : Filled (withContent m j b) (touched refs j) n one (evaluated (withContent m j b) (touched refs j) n one)
+      q = is-filled (λ k j. List·Memᴰ j (refs k)) (ord .earlier) (withContent m j b) (content-local m refs ord j n hj b lb) (touched refs j) n one (p .long)
 
       last : List ℕ
-      last = worked (over m j b) (touched refs j) n one
+      last = evaluated (withContent m j b) (touched refs j) n one
 
-      by : (k : ℕ) → k < n → (t : Bool) → touched refs j k ≡ t → (touched refs i k || touched refs j k) ≡ true → slot last k ≡ over (over m i a) j b k last
+      by : (k : ℕ) → k < n → (t : Bool) → touched refs j k ≡ t → (touched refs i k || touched refs j k) ≡ true → slot last k ≡ withContent (withContent m i a) j b k last
       by k h true e o =
           q .works k h e
-          ∙ ap (pick (eqb k j) b) (sym (over-there m i a k last (λ z. false≢true (sym (setting-untouched i j ne si) ∙ ap (touched refs j) (sym z) ∙ e))))
+          ∙ ap (pick (eqb k j) b) (sym (content-elsewhere m i a k last (λ z. false≢true (sym (setting-untouched i j ne si) ∙ ap (touched refs j) (sym z) ∙ e))))
       by k h false e o =
           q .kept k h e
           ∙ p .works k h (or-left-of (touched refs i k) _ e o)
           ∙ loc .same k one last (λ x u. let s = ord .earlier k x u in sym (q .kept x (omega arith) (untouched-uses refs j (ord .earlier) k x e u)))
-          ∙ sym (over-there (over m i a) j b k last (λ z. false≢true (sym e ∙ ap (touched refs j) z ∙ touched-self refs j (ord .earlier))))
+          ∙ sym (content-elsewhere (withContent m i a) j b k last (λ z. false≢true (sym e ∙ ap (touched refs j) z ∙ touched-self refs j (ord .earlier))))
 
   -- changes of two different settings commute, from any buffer
   pub commute : (i j : ℕ) (a b : List ℕ) → i < n → j < n → i ≢ j → refs i ≡ [] → refs j ≡ [] → length a ≡ 136 → length b ≡ 136
       → changed m refs j b n (changed m refs i a n l) ≡ changed m refs i a n (changed m refs j b n l)
-  unfolding over
+  unfolding withContent
   commute i j a b hi hj ne si sj la lb =
-      only (λ k j. List·Memᴰ j (refs k)) (ord .earlier) (over (over m i a) j b)
-      (over-local (over m i a) refs (over-ordered m refs ord i n hi a la) j n hj b lb) (λ k. touched refs i k || touched refs j k) n l _ _
-      x (record { long = y .long; kept = λ k h e. y .kept k h (or-comm (touched refs j k) _ ∙ e); works = λ k h e. y .works k h (or-comm (touched refs j k) _ ∙ e) ∙ swap k _ (eqb k j) refl (eqb k i) refl })
+      only (λ k j. List·Memᴰ j (refs k)) (ord .earlier) (withContent (withContent m i a) j b)
+      (content-local (withContent m i a) refs (content-ordered m refs ord i n hi a la) j n hj b lb) (λ k. touched refs i k || touched refs j k) n l _ _
+      x (record {
+        long = y .long;
+        kept = λ k h e. y .kept k h (or-comm (touched refs j k) _ ∙ e);
+        works = λ k h e. y .works k h (or-comm (touched refs j k) _ ∙ e) ∙ swap k _ (eqb k j) refl (eqb k i) refl;
+      })
     where
-      x : Filled (over (over m i a) j b) (λ k. touched refs i k || touched refs j k) n l (changed m refs j b n (changed m refs i a n l))
+      x : Filled (withContent (withContent m i a) j b) (λ k. touched refs i k || touched refs j k) n l (changed m refs j b n (changed m refs i a n l))
       x = both i j a b hi hj ne si la lb
 
-      y : Filled (over (over m j b) i a) (λ k. touched refs j k || touched refs i k) n l (changed m refs i a n (changed m refs j b n l))
+      y : Filled (withContent (withContent m j b) i a) (λ k. touched refs j k || touched refs i k) n l (changed m refs i a n (changed m refs j b n l))
       y = both j i b a hj hi (λ z. ne (sym z)) sj lb la
 
-      swap : (k : ℕ) (r : List ℕ) (s : Bool) → eqb k j ≡ s → (t : Bool) → eqb k i ≡ t → over (over m j b) i a k r ≡ over (over m i a) j b k r
+      swap : (k : ℕ) (r : List ℕ) (s : Bool) → eqb k j ≡ s → (t : Bool) → eqb k i ≡ t → withContent (withContent m j b) i a k r ≡ withContent (withContent m i a) j b k r
       swap k r true p true q = absurd (ne (sym (eqb-true k i q) ∙ eqb-true k j p))
       swap k r true p false q = rw (p, q)
       swap k r false p true q = rw (p, q)

@@ -10,10 +10,10 @@ use native.Mathlib.Numerals.{add-one}
 use lib.Dec.{eqb}
 use lib.ListN.{getD}
 use borrow.Author.Tests.{eq-eqb, ne-eqb, eqb-true}
-use Rattle.scalar.specs.Pattern.{pick}
+use Rattle.value.specs.Pattern.{pick}
 use Rattle.sheet.specs.Node.{anyMarked}
 use Rattle.fold.specs.Change.{any, chain, depends, touched, tally}
-use Rattle.fold.specs.Demand.{Leads, direct, through, Tells}
+use Rattle.fold.specs.Demand.{Leads, direct, chained, Tells}
 
 -- ---- tests
 or-left : (a b : Bool) → a ≡ true → (a || b) ≡ true
@@ -94,7 +94,7 @@ module _ (refs : ℕ → List ℕ) (i : ℕ) (earlier : (k j : ℕ) → List·Me
   -- they are those that the inductive definition has
   pub leads-depends : {k : ℕ} → Leads refs i k → depends refs i k ≡ true
   leads-depends {k} (direct h) = depends-is k ∙ any-has (touched refs i) (refs k) h touched-self
-  leads-depends {k} (through {j = j} h q) = depends-is k ∙ any-has (touched refs i) (refs k) h (or-right (eqb j i) _ (leads-depends q))
+  leads-depends {k} (chained {j = j} h q) = depends-is k ∙ any-has (touched refs i) (refs k) h (or-right (eqb j i) _ (leads-depends q))
 
   depends-leads-below : (n k : ℕ) → k < n → depends refs i k ≡ true → Leads refs i k
   depends-leads-below zero k h e = absurd (not-suc-le-zero h)
@@ -103,7 +103,7 @@ module _ (refs : ℕ → List ℕ) (i : ℕ) (earlier : (k j : ℕ) → List·Me
       let b : r .0 < k = earlier k (r .0) (r .1) in
       ⊎-elim
       (λ q. direct (Memᴰ·cast (sym (eqb-true (r .0) i q)) (r .1)))
-      (λ q. through (r .1) (depends-leads-below n (r .0) (omega arith) q))
+      (λ q. chained (r .1) (depends-leads-below n (r .0) (omega arith) q))
       (or-cases (eqb (r .0) i) _ (r .2))
 
   pub depends-leads : (k : ℕ) → depends refs i k ≡ true → Leads refs i k
@@ -111,7 +111,7 @@ module _ (refs : ℕ → List ℕ) (i : ℕ) (earlier : (k j : ℕ) → List·Me
 
   pub leads-after : {k : ℕ} → Leads refs i k → i < k
   leads-after {k} (direct h) = earlier k i h
-  leads-after {k} (through {j = j} h q) =
+  leads-after {k} (chained {j = j} h q) =
       let a : i < j = leads-after q in
       let b : j < k = earlier k j h in
       omega arith

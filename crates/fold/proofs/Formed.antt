@@ -9,39 +9,40 @@ use native.Mathlib.Nat.{le-of-suc-le-suc, not-suc-le-zero}
 use lib.Dec.{eqb, leb}
 use lib.ListN.{length, getD, replicate, length-replicate, getD-replicate, List·getD-eq-default}
 use borrow.Author.Tests.{eq-eqb, eqb-true, ltb-true, leb-true, le-leb}
-use Rattle.scalar.specs.Pattern.{pick, properOf, keptOf}
-use Rattle.scalar.proofs.Promises.{Fine}
-use Rattle.scalar.proofs.Sound.{kept-once, kept-proper}
-use Rattle.shape.specs.declared.Instance.{Instance}
-use Rattle.shape.specs.declared.Outcome.{Outcome}
-use Rattle.shape.specs.Operand.{shapeOk}
-use Rattle.shape.specs.Pairing.{opKnown, unaryKnown}
-use Rattle.shape.specs.Meaning.{valueOf, unaryMeaning, binaryMeaning, aScalar}
-use Rattle.shape.proofs.Places.{both, one-of, good-shape}
-use Rattle.shape.proofs.OnScalars.{good-one}
-use Rattle.shape.proofs.Outcomes.{unary-answers, binary-answers}
+use Rattle.value.specs.Pattern.{pick, properOf, keptOf}
+use Rattle.operand.proofs.Answers.{Fine}
+use Rattle.value.proofs.Sound.{kept-once, kept-proper}
+use Rattle.operand.specs.declared.Instance.{Instance}
+use Rattle.operand.specs.declared.Outcome.{Outcome}
+use Rattle.operand.specs.Operand.{shapeOk, aScalar}
+use Rattle.pairing.specs.Pairing.{opKnown, unaryKnown}
+use Rattle.operand.specs.Outcome.{valueOf}
+use Rattle.dispatch.specs.Meaning.{unaryMeaning, binaryMeaning}
+use Rattle.operand.proofs.Tests.{both, one-of}
+use Rattle.operand.proofs.Shapes.{formed-shape, formed-one}
+use Rattle.dispatch.proofs.Outcomes.{unary-answers, binary-answers}
 use Rattle.slot.specs.Slot.{slot, formed, wellFormed}
 use Rattle.slot.proofs.Parts.{le-or-lt}
 use Rattle.slot.proofs.Written.{formed-value, answers-formed, reference-formed, formed-good, written}
 use Rattle.sheet.specs.declared.Head.{Head}
 use Rattle.sheet.specs.declared.Head.the-variants as head
-use Rattle.sheet.specs.Read.{Read, found, refused, need}
+use Rattle.sheet.specs.Read.{Read, found, refused, must}
 use Rattle.sheet.specs.Tree.{Expr, literal, reference, unary, Entry}
-use Rattle.sheet.specs.Node.{leWord, allProper, components, valueAt, readLiteral, readReference, known, operands, readOperator}
+use Rattle.sheet.specs.Node.{leWord, allProper, components, valueAt, readLiteral, readReference, operatorKnown, operands, readOperator}
 use Rattle.sheet.specs.Node.{Tag, isLiteral, isReference, isOperator, unknown, tagOf, onTag, readNode}
 use Rattle.sheet.specs.Record.{readHead}
 use Rattle.sheet.specs.Sheet.{readSheet}
-use Rattle.sheet.proofs.Reading.{never, need-found, then-found, made-found}
+use Rattle.sheet.proofs.Reading.{never, must-found, then-found, as-found}
 use Rattle.sheet.proofs.Inverse.{literal-holds}
-use Rattle.sheet.proofs.Accepted.{Holds, a-setting, an-expression}
+use Rattle.sheet.proofs.Accepted.{BodyHolds, a-setting, an-expression}
 use Rattle.fold.specs.Meaning.{onOne, onTwo, meaning, entryMeaning}
 use Rattle.fold.specs.Fresh.{entryAt, meansOf, refsOf, fresh, freshBytes}
 use Rattle.fold.specs.Change.{content, faultOf, touched, changeBytes}
 use Rattle.fold.specs.Demand.{Leads}
-use Rattle.fold.proofs.Worked.{Filled, filled}
+use Rattle.fold.proofs.Evaluated.{Filled, is-filled}
 use Rattle.fold.proofs.Depend.{or-cases, touched-self, depends-leads, touched-leads}
 use Rattle.fold.proofs.Places.{recorded}
-use Rattle.fold.proofs.Answers.{fine}
+use Rattle.fold.proofs.Answers.{no-fault}
 use Rattle.fold.proofs.Theorems.{first, ord, demand}
 
 -- ---- the value of a literal
@@ -73,10 +74,10 @@ comps-rest ty (suc n) m b at (suc i) h = comps-rest ty n m b (at + 8) i (le-of-s
 literal-formed : (setting : Bool) (b : List ℕ) (at : ℕ) (v : Instance) (n : ℕ) → readLiteral setting b at ≡ found v n → formed (valueOf v) ≡ true
 unfolding readLiteral
 literal-formed setting b at v n e =
-    let a = need-found _ _ _ _ v n e in
-    let c = need-found _ _ _ _ v n (a .1) in
-    let d = need-found _ _ _ _ v n (c .1) in
-    let f = need-found _ _ _ _ v n (d .1) in
+    let a = must-found _ _ _ _ v n e in
+    let c = must-found _ _ _ _ v n (a .1) in
+    let d = must-found _ _ _ _ v n (c .1) in
+    let f = must-found _ _ _ _ v n (d .1) in
     ap (λ (x : Instance). formed (valueOf x)) (literal-holds setting b at v n e .value)
     ∙ is (getD b (at + 1) 0) (getD b (at + 2) 0) (getD b (at + 3) 0)
     (both (shapeOk (getD b (at + 1) 0) (getD b (at + 2) 0) (getD b (at + 3) 0)) _ (c .0) .0) (f .0)
@@ -89,7 +90,7 @@ literal-formed setting b at v n e =
 
 -- ---- a node
 -- an operator that was accepted is known
-known-unary : (op : ℕ) → known false op ≡ true → unaryKnown op ≡ true
+known-unary : (op : ℕ) → operatorKnown false op ≡ true → unaryKnown op ≡ true
 known-unary op e = go (leb 1 op) (leb op 3) e
   where
     go : (a b : Bool) → (a && (b || false)) ≡ true → (a && b) ≡ true
@@ -97,7 +98,7 @@ known-unary op e = go (leb 1 op) (leb op 3) e
     go true false e = e
     go false b e = e
 
-known-binary : (op : ℕ) → known true op ≡ true → opKnown op ≡ true
+known-binary : (op : ℕ) → operatorKnown true op ≡ true → opKnown op ≡ true
 known-binary op e =
     let h = both (leb 1 op) (leb op 3 || leb op 18) e in
     rw (h .0) (⊎-elim (λ (p : leb op 3 ≡ true). le-leb op 18 (omega (arith, leb-true op 3 p))) (λ (p : leb op 18 ≡ true). p) (one-of (leb op 3) (leb op 18) (h .1)))
@@ -126,30 +127,30 @@ module _ (own : ℕ) (stages b l : List ℕ) (staged : own ≤ 2) (early : lengt
   abbrev All : Read Expr → Type 0
   All x = (t : Expr) (n : ℕ) → x ≡ found t n → formed (meaning own l t) ≡ true
 
-  all-need : (g : Bool) (k p : ℕ) (x : Read Expr) → (g ≡ true → All x) → All (need g (refused k p) x)
-  all-need g k p x h t n e = let w = need-found g k p x t n e in h (w .0) t n (w .1)
+  all-need : (g : Bool) (k p : ℕ) (x : Read Expr) → (g ≡ true → All x) → All (must g (refused k p) x)
+  all-need g k p x h t n e = let w = must-found g k p x t n e in h (w .0) t n (w .1)
 
   -- operands, a tag and a node, as the reader goes
-  operands-formed : (two : Bool) (place op : ℕ) (f : ℕ → Read Expr) (at : ℕ) → known two op ≡ true → ((a : ℕ) → All (f a)) → All (operands two place op f at)
+  operands-formed : (two : Bool) (place op : ℕ) (f : ℕ → Read Expr) (at : ℕ) → operatorKnown two op ≡ true → ((a : ℕ) → All (f a)) → All (operands two place op f at)
   unfolding operands meaning
   operands-formed false place op f at k h t n e =
-      let w = made-found (unary place op) (f at) t n e in
+      let w = as-found (unary place op) (f at) t n e in
       ap (λ (u : Expr). formed (meaning own l u)) (w .2) ∙ one-formed op (meaning own l (w .0)) (known-unary op k) (h at (w .0) n (w .1))
   operands-formed true place op f at k h t n e =
       let c = then-found _ _ t n e in
-      let d = made-found _ _ t n (c .3) in
+      let d = as-found _ _ t n (c .3) in
       ap (λ (u : Expr). formed (meaning own l u)) (d .2)
       ∙ two-formed op (meaning own l (c .0)) (meaning own l (d .0)) (known-binary op k) (h at (c .0) (c .1) (c .2)) (h (c .1) (d .0) n (d .1))
 
   tag-formed : (g : Tag) (f : ℕ → Read Expr) (at : ℕ) → ((a : ℕ) → All (f a)) → All (onTag g f stages own b at)
   unfolding onTag readReference readOperator meaning
   tag-formed isLiteral f at h t n e =
-      let w = made-found literal (readLiteral false b at) t n e in
+      let w = as-found literal (readLiteral false b at) t n e in
       ap (λ (u : Expr). formed (meaning own l u)) (w .2) ∙ literal-formed false b at (w .0) n (w .1)
   tag-formed isReference f at h t n e =
-      let a = need-found _ _ _ _ t n e in
-      let c = need-found _ _ _ _ t n (a .1) in
-      let d = need-found _ _ _ _ t n (c .1) in
+      let a = must-found _ _ _ _ t n e in
+      let c = must-found _ _ _ _ t n (a .1) in
+      let d = must-found _ _ _ _ t n (c .1) in
       let q : found (reference (getD b (at + 1) 0)) (at + 2) ≡ found t n = d .1 in
       let u : t ≡ reference (getD b (at + 1) 0) = cc in
       ap (λ (x : Expr). formed (meaning own l x)) u ∙ reference-formed l (getD b (at + 1) 0) (omega (arith, ltb-true (getD b (at + 1) 0) (length stages) (c .0)))
@@ -163,7 +164,7 @@ module _ (own : ℕ) (stages b l : List ℕ) (staged : own ≤ 2) (early : lengt
   node-formed (suc levels) at t n e = all-need _ _ _ _ (λ _. tag-formed (tagOf (getD b at 0)) (readNode levels stages own b) at (node-formed levels)) t n e
 
 -- ---- an entry, by what its body holds
-entry-formed : (stages : List ℕ) (stage : ℕ) (b : List ℕ) (e : Entry) (l : List ℕ) → stage ≤ 3 → length stages ≤ 128 → Holds stages stage b e
+entry-formed : (stages : List ℕ) (stage : ℕ) (b : List ℕ) (e : Entry) (l : List ℕ) → stage ≤ 3 → length stages ≤ 128 → BodyHolds stages stage b e
     → formed (entryMeaning l e) ≡ true
 unfolding entryMeaning
 entry-formed stages stage b e l s h (a-setting q v x f g tag p) = ap (λ (y : Entry). formed (entryMeaning l y)) x ∙ literal-formed true b 0 v (length b) f
@@ -171,8 +172,8 @@ entry-formed stages stage b e l s h (an-expression ne t x f) =
     ap (λ (y : Entry). formed (entryMeaning l y)) x ∙ node-formed stage stages b l (omega (arith, ne)) h 32 0 t (length b) f
 
 -- ---- the stage byte of a head is at most 3
-passes : (c : Bool) (k p : ℕ) (x : Head) (g start len : ℕ) → need c (head.Refused k p) x ≡ head.Record g start len → (c ≡ true) × (x ≡ head.Record g start len)
-unfolding need
+passes : (c : Bool) (k p : ℕ) (x : Head) (g start len : ℕ) → must c (head.Refused k p) x ≡ head.Record g start len → (c ≡ true) × (x ≡ head.Record g start len)
+unfolding must
 passes true k p x g start len e = (refl, e)
 passes false k p x g start len e = absurd (let z : _≡_ {A = ℕ} 0 1 = cc in omega arith)
 
@@ -190,7 +191,7 @@ head-stage s at g start len e =
 -- ---- new content whose pattern is proper
 content-formed : (ty bits : ℕ) → properOf ty bits ≡ true → formed (valueOf (content ty bits)) ≡ true
 unfolding content components
-content-formed ty bits p = formed-value (content ty bits) (good-shape (aScalar ty bits) (good-one ty bits ∙ p)) used rest
+content-formed ty bits p = formed-value (content ty bits) (formed-shape (aScalar ty bits) (formed-one ty bits ∙ p)) used rest
   where
     used : (i : ℕ) → i < 1 → Fine ty (getD (keptOf ty bits ∷ replicate 15 0) i 0)
     used zero h = (kept-proper ty bits p, kept-once ty bits)
@@ -215,20 +216,20 @@ module _ (s : List ℕ) (es : List Entry) (z : ℕ) (good : readSheet s ≡ foun
 
   -- after fresh evaluation every slot is well formed
   pub fresh-formed : (l : List ℕ) → length l ≡ 136 * length es → (k : ℕ) → k < length es → wellFormed (slot (freshBytes (readSheet s) l) k) ≡ true
-  unfolding freshBytes need fresh
+  unfolding freshBytes must fresh
   fresh-formed l long k h =
       rw (good, eq-eqb (length l) (136 * length es) long)
       (holds-formed k h (fresh es l) (fresh es l) (all .works k h refl))
     where
       all : Filled (meansOf es) (λ j. true) (length es) l (fresh es l)
-      all = filled (λ i j. List·Memᴰ j (refsOf es i)) (ord s es z good .earlier) (meansOf es) (ord s es z good .local) (λ j. true) (length es) l long
+      all = is-filled (λ i j. List·Memᴰ j (refsOf es i)) (ord s es z good .earlier) (meansOf es) (ord s es z good .local) (λ j. true) (length es) l long
 
   module _ (l : List ℕ) (i ty bits : ℕ) (ok : faultOf es (length l) i ty bits ≡ 0) where
     -- after a change that no check refuses the setting's own slot is well formed, and so is every dependent's
     pub changed-formed : (k : ℕ) → k < length es → (k ≡ i) ⊎ Leads (refsOf es) i k → wellFormed (slot (changeBytes (readSheet s) l i ty bits) k) ≡ true
     changed-formed k h (inl q) =
         ap (λ (j : ℕ). wellFormed (slot (changeBytes (readSheet s) l i ty bits) j)) q
-        ∙ ap wellFormed (demand s es z good l i ty bits ok .2 .own) ∙ written (valueOf (content ty bits)) (content-formed ty bits (fine es (length l) i ty bits ok .proper))
+        ∙ ap wellFormed (demand s es z good l i ty bits ok .2 .own) ∙ written (valueOf (content ty bits)) (content-formed ty bits (no-fault es (length l) i ty bits ok .proper))
     changed-formed k h (inr q) =
         holds-formed k h (changeBytes (readSheet s) l i ty bits) (changeBytes (readSheet s) l i ty bits) (demand s es z good l i ty bits ok .2 .works k h q)
 

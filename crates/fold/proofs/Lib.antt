@@ -1,4 +1,4 @@
-pub mod Worked
+pub mod Evaluated
 pub mod Depend
 pub mod Changes
 pub mod Trees
@@ -7,4 +7,5 @@ pub mod Steps
 pub mod Answers
 pub mod Theorems
 pub mod Formed
+pub mod Impostors
 pub mod Single

@@ -9,24 +9,24 @@ use native.Mathlib.Numerals.{add-one, sub-one}
 use lib.Dec.{ltb}
 use lib.ListN.{length, take, drop, getD, length-append, length-map, take-append-drop, List·getD-eq-default}
 use lib.Seq.{take-suc, drop-cons, length-take-le}
-use Rattle.scalar.specs.Pattern.{pick}
-use Rattle.shape.specs.declared.Instance.{Instance}
-use Rattle.shape.specs.declared.Outcome.{Outcome}
-use Rattle.shape.specs.Meaning.{valueOf}
+use Rattle.value.specs.Pattern.{pick}
+use Rattle.operand.specs.declared.Instance.{Instance}
+use Rattle.operand.specs.declared.Outcome.{Outcome}
+use Rattle.operand.specs.Outcome.{valueOf}
 use Rattle.slot.proofs.Parts.{le-or-lt}
 use Rattle.slot.proofs.Slots.{bytes-long}
 use Rattle.slot.specs.Slot.{bytesOf, slot}
 use Rattle.sheet.specs.declared.Head.{Head}
 use Rattle.sheet.specs.declared.Head.the-variants as head
 use Rattle.sheet.specs.declared.Literal.{Literal}
-use Rattle.sheet.specs.Read.{Read, found, refused, andThen}
-use Rattle.sheet.specs.Tree.{Expr, Entry, setting, expression, stageOf, names, namesOf}
+use Rattle.sheet.specs.Read.{Read, found, refused, thenRead}
+use Rattle.sheet.specs.Tree.{Expr, Entry, entryStage, names, namesOf}
 use Rattle.sheet.specs.Node.{readNode, readLiteral, literalIn, namesIn}
-use Rattle.sheet.specs.Record.{readHead, partOf, readBody, readRecord}
+use Rattle.sheet.specs.Record.{readHead, bodyAt, readBody, readRecord}
 use Rattle.sheet.specs.Sheet.{readRecords}
 use Rattle.sheet.proofs.Reading.{never}
-use Rattle.sheet.proofs.Records.{Kept, record-kept}
-use Rattle.sheet.proofs.Accepted.{Holds, a-setting, an-expression, body-holds, literal-value, names-there}
+use Rattle.sheet.proofs.Records.{RecordThere, record-there}
+use Rattle.sheet.proofs.Accepted.{BodyHolds, a-setting, an-expression, body-holds, literal-value, names-there}
 use Rattle.sheet.proofs.Inverse.{some-level}
 use Rattle.sheet.proofs.Inverse as node
 use Rattle.sheet.proofs.Sheets.{one-more}
@@ -34,13 +34,13 @@ use Rattle.fold.specs.declared.walk.Walked.{Walked}
 use Rattle.fold.specs.declared.turns.Setting.the-variants.{Of, None}
 use Rattle.fold.specs.Meaning.{entryMeaning}
 use Rattle.fold.specs.Fresh.{entryAt, meansOf, refsOf}
-use Rattle.fold.specs.Change.{isSetting, typeOf}
-use Rattle.fold.specs.Inside.{Stands, NodeMeans, Body, Bodied, BodyMeans, At}
+use Rattle.fold.specs.Change.{isSetting, settingType}
+use Rattle.fold.specs.Inside.{NodeAt, NodeMeans, Body, Bodied, BodyMeans, At}
 use Rattle.fold.proofs.Changes.{Ordered}
 use Rattle.fold.proofs.Trees.{entry-same}
 
 -- ---- an accepted body
-holds : {stage : ℕ} {b : List ℕ} {e : Entry} (y : Body stage b e) → Holds (y .stages) stage b e
+holds : {stage : ℕ} {b : List ℕ} {e : Entry} (y : Body stage b e) → BodyHolds (y .stages) stage b e
 holds {stage} {b} {e} y = body-holds (y .stages) stage b e (y .end) (y .read)
 
 module _ (stage : ℕ) (b results : List ℕ) where
@@ -49,7 +49,7 @@ module _ (stage : ℕ) (b results : List ℕ) where
   unfolding BodyMeans entryMeaning
   body-literal q o h = λ e y. go e (holds y)
     where
-      go : {stages : List ℕ} (e : Entry) → Holds stages stage b e → o ≡ entryMeaning results e
+      go : {stages : List ℕ} (e : Entry) → BodyHolds stages stage b e → o ≡ entryMeaning results e
       go e (a-setting s v x f g tag l) = h ∙ ap (λ (w : Literal). valueOf (w .value)) (literal-value b 0 v (length b) g) ∙ sym (ap (entryMeaning results) x)
       go e (an-expression s t x f) = absurd (s q)
 
@@ -58,37 +58,38 @@ module _ (stage : ℕ) (b results : List ℕ) where
   unfolding BodyMeans NodeMeans entryMeaning
   body-node ne w h = λ e y. go (y .stages) e (holds y)
     where
-      go : (stages : List ℕ) (e : Entry) → Holds stages stage b e → w .answer ≡ entryMeaning results e
+      go : (stages : List ℕ) (e : Entry) → BodyHolds stages stage b e → w .answer ≡ entryMeaning results e
       go stages e (a-setting s v x f g tag l) = absurd (ne s)
       go stages e (an-expression s t x f) = h t (length b) (record { levels = 32; stages = stages; own = stage; read = f }) .0 ∙ sym (ap (entryMeaning results) x)
 
-pub body-stands : (stage : ℕ) (b : List ℕ) → Bodied stage b → (stage ≡ 3 → ⊥) → Stands b 0
+pub body-stands : (stage : ℕ) (b : List ℕ) → Bodied stage b → (stage ≡ 3 → ⊥) → NodeAt b 0
 body-stands stage b y ne = go (y .body .stages) (y .entry) (holds (y .body))
   where
-    go : (stages : List ℕ) (e : Entry) → Holds stages stage b e → Stands b 0
+    go : (stages : List ℕ) (e : Entry) → BodyHolds stages stage b e → NodeAt b 0
     go stages e (a-setting s v x f g tag l) = absurd (ne s)
     go stages e (an-expression s t x f) = record { tree = t; next = length b; parsed = record { levels = 32; stages = stages; own = stage; read = f } }
 
 -- what a body says of a setting
 module _ (stage : ℕ) (b : List ℕ) (e : Entry) (y : Body stage b e) where
-  pub no-setting : (stage ≡ 3 → ⊥) → None ≡ pick (isSetting e) (Of (typeOf e)) None
-  unfolding isSetting typeOf
+  pub no-setting : (stage ≡ 3 → ⊥) → None ≡ pick (isSetting e) (Of (settingType e)) None
+  unfolding isSetting settingType
   no-setting ne = go (holds y)
     where
-      go : {stages : List ℕ} → Holds stages stage b e → None ≡ pick (isSetting e) (Of (typeOf e)) None
+      go : {stages : List ℕ} → BodyHolds stages stage b e → None ≡ pick (isSetting e) (Of (settingType e)) None
       go (a-setting s v x f g tag l) = absurd (ne s)
       go (an-expression s t x f) = rw x
 
-  pub the-setting : stage ≡ 3 → (v : Instance) → v ≡ literalIn (readLiteral false b 0) .value → Of (v .ty) ≡ pick (isSetting e) (Of (typeOf e)) None
-  unfolding isSetting typeOf
+  pub the-setting : stage ≡ 3 → (v : Instance) → v ≡ literalIn (readLiteral false b 0) .value → Of (v .ty) ≡ pick (isSetting e) (Of (settingType e)) None
+  unfolding isSetting settingType
   the-setting q v h = go (holds y)
     where
-      go : {stages : List ℕ} → Holds stages stage b e → Of (v .ty) ≡ pick (isSetting e) (Of (typeOf e)) None
+      go : {stages : List ℕ} → BodyHolds stages stage b e → Of (v .ty) ≡ pick (isSetting e) (Of (settingType e)) None
       go (a-setting s w x f g tag l) = ap (λ (u : Instance). Of (u .ty)) (h ∙ ap (λ (u : Literal). u .value) (literal-value b 0 w (length b) g)) ∙ rw x
       go (an-expression s t x f) = absurd (s q)
 
 -- the entries that an accepted body names stand before it
-node-below : (levels : ℕ) (stages : List ℕ) (own : ℕ) (b : List ℕ) (at : ℕ) (t : Expr) (n : ℕ) → readNode levels stages own b at ≡ found t n → (j : ℕ) → List·Memᴰ j (names t) → j < length stages
+node-below : (levels : ℕ) (stages : List ℕ) (own : ℕ) (b : List ℕ) (at : ℕ) (t : Expr) (n : ℕ) → readNode levels stages own b at ≡ found t n
+    → (j : ℕ) → List·Memᴰ j (names t) → j < length stages
 unfolding names
 node-below zero stages own b at t n e j u = absurd (some-level zero stages own b at t n e refl)
 node-below (suc d) stages own b at t n e j u = go (node-below d stages own b) (node.stands (suc d) stages own b at t n e) u
@@ -104,7 +105,7 @@ node-below (suc d) stages own b at t n e j u = go (node-below d stages own b) (n
         (λ v. ih m r n (ap (λ (k : ℕ). readNode k stages own b m) (sym (sub-one (suc d))) ∙ i) j v)
         (List·Memᴰ·append-cases (names l) (rw q at u))
 
-names-below : (stages : List ℕ) (stage : ℕ) (b : List ℕ) (e : Entry) → Holds stages stage b e → (j : ℕ) → List·Memᴰ j (namesOf e) → j < length stages
+names-below : (stages : List ℕ) (stage : ℕ) (b : List ℕ) (e : Entry) → BodyHolds stages stage b e → (j : ℕ) → List·Memᴰ j (namesOf e) → j < length stages
 unfolding namesOf
 names-below stages stage b e (a-setting s v q f g tag l) j u = absurd (List·Memᴰ·not-nil (rw q at u))
 names-below stages stage b e (an-expression s t q f) j u = node-below 32 stages stage b 0 t (length b) f j (rw q at u)
@@ -112,16 +113,16 @@ names-below stages stage b e (an-expression s t q f) j u = node-below 32 stages 
 -- ---- the records
 -- no more entries are accepted than there is room for
 room-enough : (room : ℕ) (s : List ℕ) (d : List Entry) (at : ℕ) (es : List Entry) (z : ℕ) → readRecords room s d at ≡ found es z → length es ≤ length d + room
-unfolding readRecords andThen
+unfolding readRecords thenRead
 room-enough zero s d at es z = go (ltb at (length s))
   where
     go : (b : Bool) → pick b (refused 24 at) (found d at) ≡ found es z → length es ≤ length d + zero
     go true q = absurd (never 24 at es z q)
     go false q = let h : d ≡ es = cc in omega (arith, ap length h)
-room-enough (suc room) s d at es z = go (room-enough room s) (ltb at (length s)) (readRecord (map stageOf d) s at)
+room-enough (suc room) s d at es z = go (room-enough room s) (ltb at (length s)) (readRecord (map entryStage d) s at)
   where
     go : ((d : List Entry) (at : ℕ) (es : List Entry) (z : ℕ) → readRecords room s d at ≡ found es z → length es ≤ length d + room)
-        → (b : Bool) (x : Read Entry) → pick b (andThen x (λ e n. readRecords room s (d ++ e ∷ []) n)) (found d at) ≡ found es z → length es ≤ length d + suc room
+        → (b : Bool) (x : Read Entry) → pick b (thenRead x (λ e n. readRecords room s (d ++ e ∷ []) n)) (found d at) ≡ found es z → length es ≤ length d + suc room
     go ih true (found e n) q = omega (arith, ih (d ++ e ∷ []) n es z q, length-append d (e ∷ []))
     go ih true (refused k p) q = absurd (never k p es z q)
     go ih false x q = let h : d ≡ es = cc in omega (arith, ap length h)
@@ -137,7 +138,7 @@ module _ (s : List ℕ) (es : List Entry) (k at : ℕ) (p : At s es k at) (more 
   unfolding entryAt
   split = ap (λ (t : List Entry). take k es ++ t) (sym (drop-cons es k _ more)) ∙ take-append-drop k es
 
-  step : (n : ℕ) × (readRecord (map stageOf (take k es)) s at ≡ found (entryAt es k) n)
+  step : (n : ℕ) × (readRecord (map entryStage (take k es)) s at ≡ found (entryAt es k) n)
       × (readRecords (128 - k - 1) s (take k es ++ entryAt es k ∷ []) n ≡ found ((take k es ++ entryAt es k ∷ []) ++ drop (suc k) es) (p .end))
   step = one-more (128 - k) s (take k es) at (entryAt es k) (drop (suc k) es) (p .end) (p .rest ∙ ap (λ (t : List Entry). found t (p .end)) (sym split))
 
@@ -154,14 +155,14 @@ module _ (s : List ℕ) (es : List Entry) (k at : ℕ) (p : At s es k at) (more 
             ∙ ap (λ (d : List Entry). found d (p .end)) (append-assoc (take k es) (entryAt es k ∷ []) (drop (suc k) es) ∙ split);
       }
 
-  stages-long : length (map stageOf (take k es)) ≡ k
-  stages-long = length-map (take k es) stageOf ∙ length-take-le k es (p .within)
+  stages-long : length (map entryStage (take k es)) ≡ k
+  stages-long = length-map (take k es) entryStage ∙ length-take-le k es (p .within)
 
-  kept : Kept (map stageOf (take k es)) s at (entryAt es k) (step .0)
-  kept = record-kept (map stageOf (take k es)) s at (entryAt es k) (step .0) (step .1)
+  kept : RecordThere (map entryStage (take k es)) s at (entryAt es k) (step .0)
+  kept = record-there (map entryStage (take k es)) s at (entryAt es k) (step .0) (step .1)
 
-  pub few : k < 128
-  few = omega (arith, room-enough (128 - k) s (take k es) at es (p .end) (p .rest), length-take-le k es (p .within))
+  pub entry-few : k < 128
+  entry-few = omega (arith, room-enough (128 - k) s (take k es) at es (p .end) (p .rest), length-take-le k es (p .within))
 
   -- as the code reads it
   module _ (r : Head) (e : r ≡ readHead s at) where
@@ -179,25 +180,24 @@ module _ (s : List ℕ) (es : List Entry) (k at : ℕ) (p : At s es k at) (more 
       pub at-next : At s es (k + 1) (start + len)
       at-next = let h : start + len ≡ step .0 = omega (arith, kept .ends, same .1, same .2) in rw h after
 
-      at-read-body : (b : List ℕ) → b ≡ partOf s start len → readBody (map stageOf (take k es)) g b ≡ found (entryAt es k) (kept .len)
-      at-read-body b w =
-          ap (λ (t : List ℕ). readBody (map stageOf (take k es)) g t) w ∙ ap (λ (j : ℕ). readBody (map stageOf (take k es)) j (partOf s start len)) (same .0)
-          ∙ ap (λ (j : ℕ). readBody (map stageOf (take k es)) (kept .stage) (partOf s j len)) (same .1) ∙ ap (λ (j : ℕ). readBody (map stageOf (take k es)) (kept .stage) (partOf s (kept .start) j)) (same .2) ∙ kept .read
+      at-read-body : (b : List ℕ) → b ≡ bodyAt s start len → readBody (map entryStage (take k es)) g b ≡ found (entryAt es k) (kept .len)
+      at-read-body b w = rw (w, same .0, same .1, same .2) (kept .read)
 
-      pub at-body : (b : List ℕ) → b ≡ partOf s start len → Body g b (entryAt es k)
-      at-body b w = record { stages = map stageOf (take k es); end = kept .len; read = at-read-body b w }
+      pub at-body : (b : List ℕ) → b ≡ bodyAt s start len → Body g b (entryAt es k)
+      at-body b w = record { stages = map entryStage (take k es); end = kept .len; read = at-read-body b w }
 
-      pub at-names : (b : List ℕ) → b ≡ partOf s start len → namesIn b ≡ refsOf es k
+      pub at-names : (b : List ℕ) → b ≡ bodyAt s start len → namesIn b ≡ refsOf es k
       unfolding refsOf
       at-names b w =
           let y = at-read-body b w in
-          names-there (map stageOf (take k es)) g b (entryAt es k) (omega (arith, stages-long, few)) (body-holds (map stageOf (take k es)) g b (entryAt es k) (kept .len) y)
+          names-there (map entryStage (take k es)) g b (entryAt es k) (omega (arith, stages-long, entry-few)) (body-holds (map entryStage (take k es)) g b (entryAt es k) (kept .len) y)
 
   -- its names are those of earlier entries
   below : (j : ℕ) → List·Memᴰ j (refsOf es k) → j < k
   unfolding refsOf
   below j u =
-      let b = names-below (map stageOf (take k es)) (kept .stage) (partOf s (kept .start) (kept .len)) (entryAt es k) (body-holds (map stageOf (take k es)) (kept .stage) _ (entryAt es k) (kept .len) (kept .read)) j u in
+      let held = body-holds (map entryStage (take k es)) (kept .stage) (bodyAt s (kept .start) (kept .len)) (entryAt es k) (kept .len) (kept .read) in
+      let b = names-below (map entryStage (take k es)) (kept .stage) (bodyAt s (kept .start) (kept .len)) (entryAt es k) held j u in
       omega (arith, b, stages-long)
 
 -- past the last entry nothing is named
@@ -222,7 +222,7 @@ pub record Recorded (s : List ℕ) (e : Entry) : Type 0 where
   pub stages : List ℕ
   pub head : readHead s at ≡ head.Record stage start len
   pub below : length stages ≤ 128
-  pub holds : Holds stages stage (partOf s start len) e
+  pub holds : BodyHolds stages stage (bodyAt s start len) e
 
 pub recorded : (s : List ℕ) (es : List Entry) → At s es 0 0 → (k : ℕ) → k < length es → Recorded s (entryAt es k)
 recorded s es p k h = go (places s es p k (omega arith))
@@ -235,10 +235,10 @@ recorded s es p k h = go (places s es p k (omega arith))
           stage = y .stage;
           start = y .start;
           len = y .len;
-          stages = map stageOf (take k es);
+          stages = map entryStage (take k es);
           head = y .head;
-          below = omega (arith, stages-long s es k (w .0) (w .1) h, few s es k (w .0) (w .1) h);
-          holds = body-holds (map stageOf (take k es)) (y .stage) _ (entryAt es k) (y .len) (y .read);
+          below = omega (arith, stages-long s es k (w .0) (w .1) h, entry-few s es k (w .0) (w .1) h);
+          holds = body-holds (map entryStage (take k es)) (y .stage) _ (entryAt es k) (y .len) (y .read);
         }
 
 early : (s : List ℕ) (es : List Entry) → At s es 0 0 → (k j : ℕ) → List·Memᴰ j (refsOf es k) → j < k

@@ -24,6 +24,7 @@ pub change-one : (κs : Lfts 2) (a : Dens κs change-kinds.ps) (x y : resT chang
     → change-reads.Post κs a x s → change-reads.Post κs a y t → (x ≡ y) × (s .1 .0 .now ≡ t .1 .0 .now)
 change-one κs a x y s t p q = (p .0 ∙ sym (q .0), p .1 ∙ sym (q .1))
 
-pub change-marking-one : (κs : Lfts 3) (a : Dens κs change-marking-kinds.ps) (x y : resT change-marking-kinds.r κs .Denot) (s t : AtExit (endedOf 3 change-marking-kinds.ps change-marking-kinds.r) κs)
+pub change-marking-one : (κs : Lfts 3) (a : Dens κs change-marking-kinds.ps) (x y : resT change-marking-kinds.r κs .Denot)
+    (s t : AtExit (endedOf 3 change-marking-kinds.ps change-marking-kinds.r) κs)
     → change-marking-reads.Post κs a x s → change-marking-reads.Post κs a y t → (x ≡ y) × (s .1 .0 .now ≡ t .1 .0 .now) × (s .1 .1 .1 .1 .1 .0 .now ≡ t .1 .1 .1 .1 .1 .0 .now)
 change-marking-one κs a x y s t p q = (p .0 ∙ sym (q .0), p .1 ∙ sym (q .1), p .2 ∙ sym (q .2))

@@ -10,25 +10,27 @@ use lib.Dec.{eqb, ltb}
 use lib.ListN.{length, getD, set, replicate, length-set, length-append, length-replicate, getD-replicate, List·getD-append, List·getD-eq-default}
 use lib.Seq.{getD-set-same, getD-set-other, getD-at, ext-getD}
 use borrow.Author.Tests.{eq-eqb, ne-eqb, eqb-true, eqb-false, lt-ltb, le-ltb, ltb-true}
-use Rattle.scalar.specs.Pattern.{pick}
-use Rattle.shape.specs.declared.Instance.{Instance}
-use Rattle.shape.specs.declared.Outcome.{Outcome}
-use Rattle.shape.specs.Meaning.{valueOf}
+use Rattle.value.specs.Pattern.{pick}
+use Rattle.operand.specs.declared.Instance.{Instance}
+use Rattle.operand.specs.declared.Outcome.{Outcome}
+use Rattle.operand.specs.Outcome.{valueOf}
+use Rattle.operand.proofs.Tests.{both}
 use Rattle.slot.proofs.Parts.{le-or-lt}
 use Rattle.slot.specs.Slot.{bytesOf, put}
 use Rattle.sheet.specs.declared.Head.{Head}
 use Rattle.sheet.specs.declared.Head.the-variants as head
 use Rattle.sheet.specs.Tree.{Entry}
 use Rattle.sheet.specs.Node.{namesIn, anyMarked}
-use Rattle.sheet.specs.Record.{readHead, partOf}
+use Rattle.sheet.specs.Record.{readHead, bodyAt}
+use Rattle.fold.specs.declared.spans.Span.{Span}
 use Rattle.fold.specs.declared.turns.Advance.{Advance}
-use Rattle.fold.specs.Fresh.{entryAt, meansOf, refsOf, worked, fresh}
-use Rattle.fold.specs.Change.{any, depends, touched, over, changed, tally, table, content, contentBytes}
-use Rattle.fold.specs.Inside.{Bodied, BodyMeans, At, Here, Next, Fills, Turns, Accepted, FillsAll, Found, Ready, Applied}
-use Rattle.fold.proofs.Worked.{worked-more, worked-none}
+use Rattle.fold.specs.Fresh.{entryAt, meansOf, refsOf, evaluated, fresh}
+use Rattle.fold.specs.Change.{any, depends, touched, withContent, changed, tally, marksOf, content, contentBytes}
+use Rattle.fold.specs.Inside.{Body, Bodied, BodyMeans, At, Here, SpanAt, Fills, Turns, Accepted, FillsAll, Found, Ready, Applied}
+use Rattle.fold.proofs.Evaluated.{evaluated-more, evaluated-none}
 use Rattle.fold.proofs.Depend.{any-nothing, touched-self, not-before, no-depends, depends-is, marked-depends, tally-more, tally-none, tally-small}
-use Rattle.fold.proofs.Changes.{Ordered, over-here, over-there}
-use Rattle.fold.proofs.Places.{at-few, at-same, at-read, at-next, at-body, at-names, refs-past, ordered, few}
+use Rattle.fold.proofs.Changes.{Ordered, content-here, content-elsewhere}
+use Rattle.fold.proofs.Places.{at-few, at-same, at-read, at-next, at-body, at-names, refs-past, ordered, entry-few}
 
 -- ---- the size of the results
 pub sized-is : (size n : ℕ) → (eqb (size / 136) n && eqb (size % 136) 0) ≡ eqb size (136 * n)
@@ -40,53 +42,55 @@ sized-is size n = go (eqb (size / 136) n) refl (eqb (size % 136) 0) refl
     go false p b q = sym (ne-eqb size (136 * n) (λ e. eqb-false (size / 136) n p (omega arith)))
 
 -- ---- one record
-module _ (s : List ℕ) (at : ℕ) (r : Head) (e : r ≡ readHead s at) where
-  pub next-none : (n q : ℕ) → r ≡ head.Refused n q → (x : ℕ) → Next s at x
-  unfolding Next
-  next-none n q h x = λ es k p more. absurd (at-read s es k at p more r e n q h)
+module _ (s : List ℕ) (at : ℕ) (h : Head) (e : h ≡ readHead s at) where
+  pub span-none : (n q : ℕ) → h ≡ head.Refused n q → (r : Span) → SpanAt s at r
+  unfolding SpanAt
+  span-none n q x r = λ es k p more. absurd (at-read s es k at p more h e n q x)
 
-  pub fills-none : (n q : ℕ) → r ≡ head.Refused n q → (k : ℕ) → Here s k at → ⊥
-  fills-none n q h k y = at-read s (y .entries) k at (y .place) (y .more) r e n q h
+  pub span-is : (g start len : ℕ) → h ≡ head.Record g start len → SpanAt s at (record { stage = g; start = start; len = len; next = start + len })
+  unfolding SpanAt
+  span-is g start len q = λ es k p more.
+      record {
+        body = at-body s es k at p more h e g start len q (bodyAt s start len) refl;
+        names = at-names s es k at p more h e g start len q (bodyAt s start len) refl;
+        after = at-next s es k at p more h e g start len q;
+      }
 
-  module _ (g start len : ℕ) (q : r ≡ head.Record g start len) where
-    pub next-is : Next s at (start + len)
-    unfolding Next
-    next-is = λ es k p more. at-next s es k at p more r e g start len q
+-- what is done with the body that lies there
+module _ (s : List ℕ) (at : ℕ) (r : Span) (w : SpanAt s at r) (b : List ℕ) (e : b ≡ bodyAt s (r .start) (r .len)) where
+  its-body : (es : List Entry) (k : ℕ) → At s es k at → k < length es → Body (r .stage) b (entryAt es k)
+  unfolding SpanAt
+  its-body es k p more = rw e (w es k p more .body)
 
-    module _ (b : List ℕ) (w : b ≡ partOf s start len) where
-      pub here-bodied : (k : ℕ) → Here s k at → Bodied g b
-      here-bodied k y = record { entry = entryAt (y .entries) k; body = at-body s (y .entries) k at (y .place) (y .more) r e g start len q b w }
+  pub here-bodied : (k : ℕ) → Here s k at → Bodied (r .stage) b
+  here-bodied k y = record { entry = entryAt (y .entries) k; body = its-body (y .entries) k (y .place) (y .more) }
 
-      module _ (k : ℕ) (l : List ℕ) where
-        works : (es : List Entry) → At s es k at → k < length es → (o : Outcome) → BodyMeans g b l o → put l k (bytesOf o) ≡ put l k (meansOf es k l)
-        unfolding BodyMeans meansOf
-        works es p more o m = ap (λ (x : Outcome). put l k (bytesOf x)) (m (entryAt es k) (at-body s es k at p more r e g start len q b w))
+  module _ (k : ℕ) (l : List ℕ) where
+    works : (es : List Entry) → At s es k at → k < length es → (o : Outcome) → BodyMeans (r .stage) b l o → put l k (bytesOf o) ≡ put l k (meansOf es k l)
+    unfolding BodyMeans meansOf
+    works es p more o m = ap (λ (x : Outcome). put l k (bytesOf x)) (m (entryAt es k) (its-body es k p more))
 
-        pub fills-is : (o : Outcome) → BodyMeans g b l o → (x : List ℕ) → x ≡ put l k (bytesOf o) → Fills s k at l x (start + len)
-        unfolding Fills
-        fills-is o m x h = λ es p more. record { after = at-next s es k at p more r e g start len q; wrote = h ∙ works es p more o m }
+    pub fills-is : (o : Outcome) → BodyMeans (r .stage) b l o → (x : List ℕ) → x ≡ put l k (bytesOf o) → Fills s k at l x (r .next)
+    unfolding Fills SpanAt
+    fills-is o m x h = λ es p more. record { after = w es k p more .after; wrote = h ∙ works es p more o m }
 
-        module _ (ms : List Bool) (hit : Bool) (f : hit ≡ anyMarked ms (namesIn b)) where
-          found : (es : List Entry) → At s es k at → k < length es → (c : Bool) → hit ≡ c → anyMarked ms (refsOf es k) ≡ c
-          found es p more c i = ap (anyMarked ms) (sym (at-names s es k at p more r e g start len q b w)) ∙ sym f ∙ i
+    module _ (ms : List Bool) (hit : Bool) (f : hit ≡ anyMarked ms (namesIn b)) where
+      found : (es : List Entry) → At s es k at → k < length es → (c : Bool) → hit ≡ c → anyMarked ms (refsOf es k) ≡ c
+      unfolding SpanAt
+      found es p more c i = ap (anyMarked ms) (sym (w es k p more .names) ∙ ap namesIn (sym e)) ∙ sym f ∙ i
 
-          pub turns-hit : hit ≡ true → (o : Outcome) → BodyMeans g b l o → (x : List ℕ) → x ≡ put l k (bytesOf o)
-              → Turns s k at l x ms (set ms k true) (record { next = start + len; count = 1 })
-          unfolding Turns
-          turns-hit i o m x h = λ es p more.
-              let t = found es p more true i in
-              record {
-                after = at-next s es k at p more r e g start len q;
-                wrote = rw t (h ∙ works es p more o m);
-                marked = rw t;
-                counted = rw t;
-              }
+      pub turns-hit : hit ≡ true → (o : Outcome) → BodyMeans (r .stage) b l o → (x : List ℕ) → x ≡ put l k (bytesOf o)
+          → Turns s k at l x ms (set ms k true) (record { next = r .next; count = 1 })
+      unfolding Turns SpanAt
+      turns-hit i o m x h = λ es p more.
+          let t = found es p more true i in
+          record { after = w es k p more .after; wrote = rw t (h ∙ works es p more o m); marked = rw t; counted = rw t }
 
-          pub turns-not : hit ≡ false → Turns s k at l l ms (set ms k false) (record { next = start + len; count = 0 })
-          unfolding Turns
-          turns-not i = λ es p more.
-              let t = found es p more false i in
-              record { after = at-next s es k at p more r e g start len q; wrote = rw t; marked = rw t; counted = rw t }
+      pub turns-not : hit ≡ false → Turns s k at l l ms (set ms k false) (record { next = r .next; count = 0 })
+      unfolding Turns SpanAt
+      turns-not i = λ es p more.
+          let t = found es p more false i in
+          record { after = w es k p more .after; wrote = rw t; marked = rw t; counted = rw t }
 
 -- ---- fresh evaluation: where the loop stands
 pub record Filling (s l : List ℕ) (n k at : ℕ) (r : List ℕ) : Type 0 where
@@ -94,10 +98,10 @@ pub record Filling (s l : List ℕ) (n k at : ℕ) (r : List ℕ) : Type 0 where
   pub first : At s entries 0 0
   pub count : length entries ≡ n
   pub place : At s entries k at
-  pub wrote : r ≡ worked (meansOf entries) (λ j. true) k l
+  pub wrote : r ≡ evaluated (meansOf entries) (λ j. true) k l
 
 pub filling-none : (s l : List ℕ) (n : ℕ) → Accepted s n → Filling s l n 0 0 l
-unfolding worked
+unfolding evaluated
 filling-none s l n a = record { entries = a .entries; first = a .place; count = a .count; place = a .place; wrote = refl }
 
 module _ (s l : List ℕ) (n k at : ℕ) (r : List ℕ) (f : Filling s l n k at r) where
@@ -113,7 +117,7 @@ module _ (s l : List ℕ) (n k at : ℕ) (r : List ℕ) (f : Filling s l n k at 
         first = f .first;
         count = f .count;
         place = v .after;
-        wrote = v .wrote ∙ rw (f .wrote) (sym (worked-more (meansOf (f .entries)) (λ j. true) k l));
+        wrote = v .wrote ∙ rw (f .wrote) (sym (evaluated-more (meansOf (f .entries)) (λ j. true) k l));
       }
 
   pub filling-end : k ≤ n → n ≤ k → FillsAll s n l r
@@ -121,7 +125,7 @@ module _ (s l : List ℕ) (n k at : ℕ) (r : List ℕ) (f : Filling s l n k at 
   filling-end h i = λ es p c.
       let e : f .entries ≡ es = at-same s (f .entries) es (f .first) p in
       let q : k ≡ length es = omega arith in
-      f .wrote ∙ ap (λ (t : List Entry). worked (meansOf t) (λ j. true) k l) e ∙ ap (λ (j : ℕ). worked (meansOf es) (λ j. true) j l) q
+      f .wrote ∙ ap (λ (t : List Entry). evaluated (meansOf t) (λ j. true) k l) e ∙ ap (λ (j : ℕ). evaluated (meansOf es) (λ j. true) j l) q
 
 -- ---- the way to entry i: where the loop stands
 unfoldable pub Finding : List ℕ → ℕ → ℕ → ℕ → Type 0
@@ -131,9 +135,9 @@ pub finding-none : (s : List ℕ) (n : ℕ) → Finding s n 0 0
 unfolding Finding
 finding-none s n = λ es p c. p
 
-pub finding-more : (s : List ℕ) (n k at x : ℕ) → Finding s n k at → k < n → Next s at x → Finding s n (k + 1) x
-unfolding Finding Next
-finding-more s n k at x f h w = λ es p c. w es k (f es p c) (omega arith)
+pub finding-more : (s : List ℕ) (n k at : ℕ) (r : Span) → Finding s n k at → k < n → SpanAt s at r → Finding s n (k + 1) (r .next)
+unfolding Finding SpanAt
+finding-more s n k at r f h w = λ es p c. w es k (f es p c) (omega arith) .after
 
 pub finding-end : (s : List ℕ) (n i k at : ℕ) → Finding s n k at → k ≤ n → k ≤ i → ((k < n) → (k < i) → ⊥) → Found s n i at
 unfolding Finding Found
@@ -150,27 +154,31 @@ finding-end s n i k at f h g stop = λ es p c. go (le-or-lt n i) es p c
         rw (t, ← e) (f es p c)
 
 -- ---- a table of which numbers pass
-table-long : (p : ℕ → Bool) (n : ℕ) → length (table p n) ≡ n
-unfolding table
-table-long p zero = refl
-table-long p (suc n) = omega (arith, length-append (table p n) (p n ∷ []), table-long p n)
+marks-long : (p : ℕ → Bool) (n : ℕ) → length (marksOf p n) ≡ n
+unfolding marksOf
+marks-long p zero = refl
+marks-long p (suc n) = omega (arith, length-append (marksOf p n) (p n ∷ []), marks-long p n)
 
-pub table-at : (p : ℕ → Bool) (n i : ℕ) → i < n → getD (table p n) i false ≡ p i
-unfolding table
-table-at p zero i h = absurd (not-suc-le-zero h)
-table-at p (suc n) i h =
-    ⊎-elim (λ (e : i ≡ n). getD-at (table p n) (p n) [] false i (table-long p n ∙ sym e) ∙ ap p (sym e)) (λ (b : i < n). List·getD-append (table p n) _ false i (omega (arith, table-long p n)) ∙ table-at p n i b)
+pub marks-at : (p : ℕ → Bool) (n i : ℕ) → i < n → getD (marksOf p n) i false ≡ p i
+unfolding marksOf
+marks-at p zero i h = absurd (not-suc-le-zero h)
+marks-at p (suc n) i h =
+    ⊎-elim
+    (λ (e : i ≡ n). getD-at (marksOf p n) (p n) [] false i (marks-long p n ∙ sym e) ∙ ap p (sym e))
+    (λ (b : i < n). List·getD-append (marksOf p n) _ false i (omega (arith, marks-long p n)) ∙ marks-at p n i b)
     (eq-or-lt-of-le (le-of-suc-le-suc h))
 
 clear : (j : ℕ) → getD (replicate 128 false) j false ≡ false
 clear j =
-    ⊎-elim (λ (h : 128 ≤ j). List·getD-eq-default (replicate 128 false) false {n = j} (omega (arith, length-replicate {A = Bool} 128 false))) (λ (h : j < 128). getD-replicate 128 j false false h)
+    ⊎-elim
+    (λ (h : 128 ≤ j). List·getD-eq-default (replicate 128 false) false {n = j} (omega (arith, length-replicate {A = Bool} 128 false)))
+    (λ (h : j < 128). getD-replicate 128 j false false h)
     (le-or-lt 128 j)
 
 -- ---- the turns of a change of entry i: where the loop stands
 pub record Turning (s : List ℕ) (es : List Entry) (n i : ℕ) (c l : List ℕ) (k at : ℕ) (r : List ℕ) (ms : List Bool) (count : ℕ) : Type 0 where
   pub place : At s es k at
-  pub wrote : r ≡ worked (over (meansOf es) i c) (touched (refsOf es) i) k l
+  pub wrote : r ≡ evaluated (withContent (meansOf es) i c) (touched (refsOf es) i) k l
   pub right : (j : ℕ) → j < k → getD ms j false ≡ touched (refsOf es) i j
   pub rest : (j : ℕ) → k ≤ j → getD ms j false ≡ false
   pub room : length ms ≡ 128
@@ -181,11 +189,25 @@ module _ (s : List ℕ) (es : List Entry) (n i : ℕ) (c l : List ℕ) (first : 
   ord : Ordered (meansOf es) (refsOf es)
   ord = ordered s es first
 
+  -- the buffer after the turns of the first k entries
+  abbrev turned : ℕ → List ℕ
+  turned k = evaluated (withContent (meansOf es) i c) (touched (refsOf es) i) k l
+
+  -- before the setting nothing is chosen, and its own turn puts the content
+  turned-own : turned (i + 1) ≡ put l i c
+  turned-own =
+      let none : turned i ≡ l = evaluated-none _ (touched (refsOf es) i) i l (λ j q. not-before (refsOf es) i (ord .earlier) j q) in
+      evaluated-more _ (touched (refsOf es) i) i l ∙ rw (touched-self (refsOf es) i (ord .earlier), none, content-here (meansOf es) i c l)
+
+  -- a mark that is set is the one read
+  mark-set : (ms : List Bool) (k : ℕ) (b : Bool) → length ms ≡ 128 → k < n → getD (set ms k b) k false ≡ b
+  mark-set ms k b room h = getD-set-same ms k b false (omega (arith, room, at-few s es 0 first))
+
   turning-none : (at : ℕ) (r : List ℕ) → i < n → At s es (i + 1) at → r ≡ put l i c → Turning s es n i c l (i + 1) at r (set (replicate 128 false) i true) 0
   turning-none at r h p e =
       record {
         place = p;
-        wrote = e ∙ sym (worked-more _ (touched (refsOf es) i) i l ∙ rw (touched-self (refsOf es) i (ord .earlier), worked-none (over (meansOf es) i c) (touched (refsOf es) i) i l (λ j q. not-before (refsOf es) i (ord .earlier) j q), over-here (meansOf es) i c l));
+        wrote = e ∙ sym turned-own;
         right = λ j q. here j q;
         rest = λ j q. getD-set-other (replicate 128 false) i j true false (omega arith) ∙ clear j;
         room = length-set (replicate 128 false) i true ∙ length-replicate 128 false;
@@ -196,7 +218,7 @@ module _ (s : List ℕ) (es : List Entry) (n i : ℕ) (c l : List ℕ) (first : 
       here : (j : ℕ) → j < i + 1 → getD (set (replicate 128 false) i true) j false ≡ touched (refsOf es) i j
       here j q =
           ⊎-elim
-          (λ (g : i ≤ j). let e : j ≡ i = omega arith in rw e (getD-set-same (replicate 128 false) i true false (omega (arith, length-replicate 128 false, at-few s es 0 first)) ∙ sym (touched-self (refsOf es) i (ord .earlier))))
+          (λ (g : i ≤ j). let e : j ≡ i = omega arith in rw e (mark-set (replicate 128 false) i true (length-replicate 128 false) h ∙ sym (touched-self (refsOf es) i (ord .earlier))))
           (λ (g : j < i). getD-set-other (replicate 128 false) i j true false (omega arith) ∙ clear j ∙ sym (not-before (refsOf es) i (ord .earlier) j g))
           (le-or-lt i j)
 
@@ -221,26 +243,27 @@ module _ (s : List ℕ) (es : List Entry) (n i : ℕ) (c l : List ℕ) (first : 
           past = let p = f .past in omega arith;
         }
       where
-        works : (b : Bool) → touched (refsOf es) i k ≡ b → pick b (put r k (meansOf es k r)) r ≡ worked (over (meansOf es) i c) (touched (refsOf es) i) (k + 1) l
+        works : (b : Bool) → touched (refsOf es) i k ≡ b → pick b (put r k (meansOf es k r)) r ≡ turned (k + 1)
         works b e =
-            ap (λ (y : List ℕ). pick b (put r k y) r) (sym (over-there (meansOf es) i c k r (λ z. let p = f .past in omega arith)))
-            ∙ ap (λ (t : List ℕ). pick b (put t k (over (meansOf es) i c k t)) t) (f .wrote)
-            ∙ ap (λ (d : Bool). pick d (put (worked (over (meansOf es) i c) (touched (refsOf es) i) k l) k (over (meansOf es) i c k (worked (over (meansOf es) i c) (touched (refsOf es) i) k l))) (worked (over (meansOf es) i c) (touched (refsOf es) i) k l)) (sym e)
-            ∙ sym (worked-more (over (meansOf es) i c) (touched (refsOf es) i) k l)
+            let own : withContent (meansOf es) i c k r ≡ meansOf es k r = content-elsewhere (meansOf es) i c k r (λ z. let p = f .past in omega arith) in
+            ap (λ (y : List ℕ). pick b (put r k y) r) (sym own)
+            ∙ ap (λ (t : List ℕ). pick b (put t k (withContent (meansOf es) i c k t)) t) (f .wrote)
+            ∙ ap (λ (d : Bool). pick d (put (turned k) k (withContent (meansOf es) i c k (turned k))) (turned k)) (sym e)
+            ∙ sym (evaluated-more (withContent (meansOf es) i c) (touched (refsOf es) i) k l)
 
         here : (j : ℕ) → j < k + 1 → getD (set ms k (anyMarked ms (refsOf es k))) j false ≡ touched (refsOf es) i j
         here j q =
             ⊎-elim
-            (λ (g : k ≤ j). let e : j ≡ k = omega arith in rw e (getD-set-same ms k _ false (omega (arith, f .room, at-few s es 0 first)) ∙ named ∙ sym chosen))
+            (λ (g : k ≤ j). let e : j ≡ k = omega arith in rw e (mark-set ms k _ (f .room) h ∙ named ∙ sym chosen))
             (λ (g : j < k). getD-set-other ms k j _ false (omega arith) ∙ f .right j g)
             (le-or-lt k j)
 
-    turning-end : k ≤ n → n ≤ k → (changed (meansOf es) (refsOf es) i c n l ≡ r) × (ms ≡ table (touched (refsOf es) i) 128) × (count ≡ tally (depends (refsOf es) i) n)
+    turning-end : k ≤ n → n ≤ k → (changed (meansOf es) (refsOf es) i c n l ≡ r) × (ms ≡ marksOf (touched (refsOf es) i) 128) × (count ≡ tally (depends (refsOf es) i) n)
     unfolding changed
     turning-end h g =
         let e : k ≡ n = le-antisymm h g in (
-          ap (λ (j : ℕ). worked (over (meansOf es) i c) (touched (refsOf es) i) j l) (sym e) ∙ sym (f .wrote),
-          ext-getD false ms (table (touched (refsOf es) i) 128) (f .room ∙ sym (table-long (touched (refsOf es) i) 128)) (λ j q. marks j (omega (arith, f .room))),
+          ap turned (sym e) ∙ sym (f .wrote),
+          ext-getD false ms (marksOf (touched (refsOf es) i) 128) (f .room ∙ sym (marks-long (touched (refsOf es) i) 128)) (λ j q. marks j (omega (arith, f .room))),
           f .counted ∙ ap (tally (depends (refsOf es) i)) e,
         )
       where
@@ -249,10 +272,10 @@ module _ (s : List ℕ) (es : List Entry) (n i : ℕ) (c l : List ℕ) (first : 
             ap (λ (b : Bool). b || depends (refsOf es) i j) (ne-eqb j i (λ z. let p = f .past in omega arith))
             ∙ depends-is (refsOf es) i (ord .earlier) j ∙ ap (any (touched (refsOf es) i)) (refs-past es j (omega arith)) ∙ any-nothing (touched (refsOf es) i)
 
-        marks : (j : ℕ) → j < 128 → getD ms j false ≡ getD (table (touched (refsOf es) i) 128) j false
+        marks : (j : ℕ) → j < 128 → getD ms j false ≡ getD (marksOf (touched (refsOf es) i) 128) j false
         marks j q =
             ⊎-elim (λ (z : k ≤ j). f .rest j z ∙ sym (unfolded j (omega arith))) (λ (z : j < k). f .right j z) (le-or-lt k j)
-            ∙ sym (table-at (touched (refsOf es) i) 128 j q)
+            ∙ sym (marks-at (touched (refsOf es) i) 128 j q)
 
 -- the same for whichever entries were accepted, over the buffer as it was before the content was put
 unfoldable pub TurningAll : List ℕ → ℕ → ℕ → ℕ → ℕ → ℕ → List ℕ → ℕ → ℕ → List ℕ → List Bool → ℕ → Type 0
@@ -260,14 +283,16 @@ TurningAll s n i place ty bits start k at r ms count =
     (es : List Entry) → At s es 0 0 → At s es i place → length es ≡ n → (l : List ℕ) → start ≡ put l i (contentBytes ty bits)
     → Turning s es n i (contentBytes ty bits) l k at r ms count
 
-pub put-content : (l : List ℕ) (i ty bits : ℕ) (v : Instance) (o : Outcome) (r : List ℕ) → v ≡ content ty bits → o ≡ valueOf v → r ≡ put l i (bytesOf o) → r ≡ put l i (contentBytes ty bits)
+-- new content in the setting's slot
+pub put-content : (l : List ℕ) (i ty bits : ℕ) (v : Instance) (o : Outcome) (r : List ℕ) → v ≡ content ty bits → o ≡ valueOf v → r ≡ put l i (bytesOf o)
+    → r ≡ put l i (contentBytes ty bits)
 put-content l i ty bits v o r e q h = h ∙ ap (λ (x : Outcome). put l i (bytesOf x)) (q ∙ ap valueOf e)
 
 pub ready-few : (s : List ℕ) (n i place : ℕ) → Ready s n i place → i < 128
 ready-few s n i place y = omega (arith, y .among, y .count, at-few s (y .entries) 0 (y .first))
 
 pub here-few : (s : List ℕ) (k at : ℕ) → Here s k at → k < 128
-here-few s k at y = few s (y .entries) k at (y .place) (y .more)
+here-few s k at y = entry-few s (y .entries) k at (y .place) (y .more)
 
 pub turns-small : (s : List ℕ) (k at : ℕ) (l r : List ℕ) (ms ns : List Bool) (t : Advance) → Here s k at → Turns s k at l r ms ns t → t .count ≤ 1
 unfolding Turns
@@ -277,11 +302,11 @@ turns-small s k at l r ms ns t y w = go (anyMarked ms (refsOf (y .entries) k)) (
     go true e = omega arith
     go false e = omega arith
 
-pub turning-start : (s : List ℕ) (n i place ty bits at : ℕ) (start : List ℕ) → i < n → Next s place at
-    → TurningAll s n i place ty bits start (i + 1) at start (set (replicate 128 false) i true) 0
-unfolding TurningAll Next
-turning-start s n i place ty bits at start h w = λ es p q c l e.
-    turning-none s es n i (contentBytes ty bits) l p c at start h (w es i q (omega arith)) e
+pub turning-start : (s : List ℕ) (n i place ty bits : ℕ) (own : Span) (start : List ℕ) → i < n → SpanAt s place own
+    → TurningAll s n i place ty bits start (i + 1) (own .next) start (set (replicate 128 false) i true) 0
+unfolding TurningAll SpanAt
+turning-start s n i place ty bits own start h w = λ es p q c l e.
+    turning-none s es n i (contentBytes ty bits) l p c (own .next) start h (w es i q (omega arith) .after) e
 
 module _ (s : List ℕ) (n i place ty bits : ℕ) (start : List ℕ) (k at : ℕ) (r : List ℕ) (ms : List Bool) (count : ℕ) (f : TurningAll s n i place ty bits start k at r ms count) where
   pub turning-next : k < n → (x : List ℕ) (ns : List Bool) (t : Advance) → Turns s k at r x ms ns t → TurningAll s n i place ty bits start (k + 1) (t .next) x ns (count + t .count)
@@ -305,12 +330,8 @@ module _ (s : List ℕ) (n i place ty bits : ℕ) (start : List ℕ) (k at : ℕ
       turning-few = omega (arith, f (y .entries) (y .first) (y .here) (y .count) l e .counted, tally-small (depends (refsOf (y .entries)) i) k)
 
 -- the loop that looks for entry i
-both-true : (a b : Bool) → (a && b) ≡ true → (a ≡ true) × (b ≡ true)
-both-true true b e = (refl, e)
-both-true false b e = absurd (false≢true e)
-
 pub finding-on : (k n i : ℕ) → (ltb k n && ltb k i) ≡ true → (k < n) × (k < i)
-finding-on k n i e = let w = both-true (ltb k n) (ltb k i) e in (ltb-true k n (w .0), ltb-true k i (w .1))
+finding-on k n i e = let w = both (ltb k n) (ltb k i) e in (ltb-true k n (w .0), ltb-true k i (w .1))
 
 pub finding-stop : (k n i : ℕ) → (ltb k n && ltb k i) ≡ false → k < n → k < i → ⊥
 finding-stop k n i e p q = false≢true (sym e ∙ rw (lt-ltb k n p, lt-ltb k i q))

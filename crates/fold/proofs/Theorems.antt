@@ -9,26 +9,26 @@ use lib.Dec.{eqb}
 use lib.ListN.{length, set, length-set, getD}
 use lib.Seq.{getD-set-same, getD-set-other}
 use borrow.Author.Tests.{eq-eqb, eqb-true, eqb-false}
-use Rattle.shape.specs.declared.Instance.{Instance}
-use Rattle.shape.specs.Meaning.{valueOf}
+use Rattle.operand.specs.declared.Instance.{Instance}
+use Rattle.operand.specs.Outcome.{valueOf}
 use Rattle.slot.specs.Slot.{bytesOf}
 use Rattle.slot.proofs.Slots.{bytes-long}
-use Rattle.sheet.specs.Read.{found, need}
+use Rattle.sheet.specs.Read.{found, must}
 use Rattle.sheet.specs.Tree.{Entry, setting, expression, namesOf}
 use Rattle.sheet.specs.Sheet.{readSheet}
 use Rattle.sheet.proofs.Sheets.{sheet-good}
 use Rattle.fold.specs.declared.Folded.the-variants.{Done}
 use Rattle.fold.specs.Meaning.{entryMeaning}
-use Rattle.fold.specs.Fresh.{entryAt, meansOf, refsOf, worked, fresh, freshBytes}
-use Rattle.fold.specs.Change.{content, contentBytes, isSetting, faultOf, depends, over, changed, tally, changeAnswer, changeBytes, touched, table, changeMarks}
+use Rattle.fold.specs.Fresh.{entryAt, meansOf, refsOf, evaluated, fresh, freshBytes}
+use Rattle.fold.specs.Change.{content, contentBytes, isSetting, faultOf, depends, withContent, changed, tally, changeAnswer, changeBytes, touched, marksOf, changeMarks}
 use Rattle.fold.specs.Demand.{Changed, Leads}
 use Rattle.fold.specs.Inside.{At}
-use Rattle.fold.proofs.Steps.{table-at}
+use Rattle.fold.proofs.Steps.{marks-at}
 use Rattle.fold.proofs.Depend.{or-cases, touched-self, depends-leads, touched-leads}
-use Rattle.fold.proofs.Worked.{worked-same}
-use Rattle.fold.proofs.Changes.{Ordered, over-here, over-there, changed-is, changed-only, changed-fresh, all-any, commute}
+use Rattle.fold.proofs.Evaluated.{evaluated-same}
+use Rattle.fold.proofs.Changes.{Ordered, content-here, content-elsewhere, changed-is, changed-only, changed-fresh, all-any, commute}
 use Rattle.fold.proofs.Places.{ordered, at-few}
-use Rattle.fold.proofs.Answers.{Fine, fine}
+use Rattle.fold.proofs.Answers.{NoFault, no-fault}
 
 -- a setting names nothing
 names-none : (x : Entry) → isSetting x ≡ true → namesOf x ≡ []
@@ -59,13 +59,13 @@ module _ (s : List ℕ) (es : List Entry) (z : ℕ) (good : readSheet s ≡ foun
 
   -- fresh results do not depend on what the buffer held
   pub fresh-any : (l r : List ℕ) → length l ≡ 136 * length es → length r ≡ 136 * length es → freshBytes (readSheet s) l ≡ freshBytes (readSheet s) r
-  unfolding freshBytes need fresh
+  unfolding freshBytes must fresh
   fresh-any l r hl hr =
       rw (good, eq-eqb (length l) (136 * length es) hl, eq-eqb (length r) (136 * length es) hr) (all-any (meansOf es) (refsOf es) ord (length es) l r hl hr)
 
   module _ (l : List ℕ) (i ty bits : ℕ) (ok : faultOf es (length l) i ty bits ≡ 0) where
-    passed : Fine es (length l) i ty bits
-    passed = fine es (length l) i ty bits ok
+    passed : NoFault es (length l) i ty bits
+    passed = no-fault es (length l) i ty bits ok
 
     bytes-are : changeBytes (readSheet s) l i ty bits ≡ changed (meansOf es) (refsOf es) i (contentBytes ty bits) (length es) l
     unfolding changeBytes
@@ -94,12 +94,12 @@ module _ (s : List ℕ) (es : List Entry) (z : ℕ) (good : readSheet s ≡ foun
     bytes-long-still : length (changeBytes (readSheet s) l i ty bits) ≡ length l
     bytes-long-still = demand .2 .long ∙ sym (passed .sized)
 
-    marks-are : (ms : List Bool) → changeMarks (readSheet s) l i ty bits ms ≡ table (touched (refsOf es) i) 128
+    marks-are : (ms : List Bool) → changeMarks (readSheet s) l i ty bits ms ≡ marksOf (touched (refsOf es) i) 128
     unfolding changeMarks
     marks-are ms = rw (good, ok)
 
     mark-at : (ms : List Bool) (k : ℕ) → k < length es → getD (changeMarks (readSheet s) l i ty bits ms) k false ≡ touched (refsOf es) i k
-    mark-at ms k h = ap (λ (t : List Bool). getD t k false) (marks-are ms) ∙ table-at (touched (refsOf es) i) 128 k (omega (arith, at-few s es 0 first))
+    mark-at ms k h = ap (λ (t : List Bool). getD t k false) (marks-are ms) ∙ marks-at (touched (refsOf es) i) 128 k (omega (arith, at-few s es 0 first))
 
     -- the entries marked are the setting and those from which a chain of references leads to it
     pub marked-only : (ms : List Bool) (k : ℕ) → k < length es → getD (changeMarks (readSheet s) l i ty bits ms) k false ≡ true → (k ≡ i) ⊎ Leads (refsOf es) i k
@@ -117,23 +117,25 @@ module _ (s : List ℕ) (es : List Entry) (z : ℕ) (good : readSheet s ≡ foun
   fresh-again l i ty bits long ok =
       bytes-are (fresh es l) i ty bits ok
       ∙ changed-fresh (meansOf es) (refsOf es) ord i (length es) among (contentBytes ty bits) (bytes-long (valueOf (content ty bits))) l long
-      ∙ worked-same _ _ (λ k. true) (length es) l (λ k h e r. replaced k (eqb k i) refl r)
-      ∙ ap (λ (n : ℕ). worked (meansOf (set es i (setting (content ty bits)))) (λ k. true) n l) (sym (length-set es i (setting (content ty bits))))
+      ∙ evaluated-same _ _ (λ k. true) (length es) l (λ k h e r. replaced k (eqb k i) refl r)
+      ∙ ap (λ (n : ℕ). evaluated (meansOf (set es i (setting (content ty bits)))) (λ k. true) n l) (sym (length-set es i (setting (content ty bits))))
     where
       among : i < length es
       among = passed (fresh es l) i ty bits ok .among
 
-      replaced : (k : ℕ) (b : Bool) → eqb k i ≡ b → (r : List ℕ) → over (meansOf es) i (contentBytes ty bits) k r ≡ meansOf (set es i (setting (content ty bits))) k r
-      replaced k true e r = let q = eqb-true k i e in rw q (over-here (meansOf es) i (contentBytes ty bits) r ∙ sym (means-here es i (content ty bits) r among))
-      replaced k false e r = over-there (meansOf es) i (contentBytes ty bits) k r (eqb-false k i e) ∙ sym (means-there es i (content ty bits) k r (eqb-false k i e))
+      replaced : (k : ℕ) (b : Bool) → eqb k i ≡ b → (r : List ℕ) → withContent (meansOf es) i (contentBytes ty bits) k r ≡ meansOf (set es i (setting (content ty bits))) k r
+      replaced k true e r = let q = eqb-true k i e in rw q (content-here (meansOf es) i (contentBytes ty bits) r ∙ sym (means-here es i (content ty bits) r among))
+      replaced k false e r = content-elsewhere (meansOf es) i (contentBytes ty bits) k r (eqb-false k i e) ∙ sym (means-there es i (content ty bits) k r (eqb-false k i e))
 
   -- changes of two different settings commute, from any buffer
   pub changes-commute : (l : List ℕ) (i ty bits j uy cits : ℕ) → i ≢ j → faultOf es (length l) i ty bits ≡ 0 → faultOf es (length l) j uy cits ≡ 0
       → changeBytes (readSheet s) (changeBytes (readSheet s) l i ty bits) j uy cits ≡ changeBytes (readSheet s) (changeBytes (readSheet s) l j uy cits) i ty bits
   changes-commute l i ty bits j uy cits ne p q =
+      let one = passed l i ty bits p in
+      let two = passed l j uy cits q in
       bytes-are (changeBytes (readSheet s) l i ty bits) j uy cits (rw (bytes-long-still l i ty bits p) q)
       ∙ ap (changed (meansOf es) (refsOf es) j (contentBytes uy cits) (length es)) (bytes-are l i ty bits p)
-      ∙ commute (meansOf es) (refsOf es) ord (length es) l (passed l i ty bits p .sized) i j (contentBytes ty bits) (contentBytes uy cits) (passed l i ty bits p .among) (passed l j uy cits q .among) ne
-      (setting-names es i (passed l i ty bits p .setting)) (setting-names es j (passed l j uy cits q .setting)) (bytes-long (valueOf (content ty bits))) (bytes-long (valueOf (content uy cits)))
+      ∙ commute (meansOf es) (refsOf es) ord (length es) l (one .sized) i j (contentBytes ty bits) (contentBytes uy cits) (one .among) (two .among) ne
+      (setting-names es i (one .setting)) (setting-names es j (two .setting)) (bytes-long (valueOf (content ty bits))) (bytes-long (valueOf (content uy cits)))
       ∙ ap (changed (meansOf es) (refsOf es) i (contentBytes ty bits) (length es)) (sym (bytes-are l j uy cits q))
       ∙ sym (bytes-are (changeBytes (readSheet s) l j uy cits) i ty bits (rw (bytes-long-still l j uy cits q) p))

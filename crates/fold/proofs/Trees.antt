@@ -7,9 +7,10 @@ use native.Mathlib.Omega.{arith}
 use lib.Dec.{eqb}
 use lib.ListN.{length, getD}
 use borrow.Author.Tests.{eq-eqb, ne-eqb}
-use Rattle.scalar.specs.Pattern.{pick}
-use Rattle.shape.specs.declared.Outcome.{Outcome}
-use Rattle.shape.specs.Meaning.{valueOf, unaryMeaning, binaryMeaning}
+use Rattle.value.specs.Pattern.{pick}
+use Rattle.operand.specs.declared.Outcome.{Outcome}
+use Rattle.operand.specs.Outcome.{valueOf}
+use Rattle.dispatch.specs.Meaning.{unaryMeaning, binaryMeaning}
 use Rattle.slot.specs.Slot.{slot, referenceTo}
 use Rattle.sheet.specs.declared.Literal.{Literal}
 use Rattle.sheet.specs.Read.{found}
@@ -20,7 +21,7 @@ use Rattle.fold.specs.declared.walk.Walked.{Walked}
 use Rattle.fold.specs.declared.walk.Operand.{Operand}
 use Rattle.fold.specs.declared.walk.Operand.the-variants.{Value, Ends}
 use Rattle.fold.specs.Meaning.{onOne, onTwo, meaning, entryMeaning}
-use Rattle.fold.specs.Inside.{Parsed, Stands, NodeMeans, tagByte}
+use Rattle.fold.specs.Inside.{Parsed, NodeAt, NodeMeans, tagByte}
 
 -- ---- a refusal ends a node
 value-status : (status : ℕ) → pick (eqb status 0) Value Ends ≡ Value → eqb status 0 ≡ true
@@ -94,12 +95,12 @@ module _ (b : List ℕ) (at : ℕ) (t : Expr) (n : ℕ) (p : Parsed b at t n) wh
       let w = two-there (p .levels) (p .stages) (p .own) b at t n (p .read) q in
       (w .0, (w .1 .0, w .1 .1, w .1 .2, below (at + 2) (w .1 .0) (w .1 .1) (w .1 .3), below (w .1 .1) (w .1 .2) n (w .1 .4), w .1 .5))
 
-module _ (b : List ℕ) (at : ℕ) (s : Stands b at) where
+module _ (b : List ℕ) (at : ℕ) (s : NodeAt b at) where
   pub operator-there : (two : Bool) → getD b at 0 ≡ tagByte two → at + 1 < length b
   operator-there false q = one-below b at (s .tree) (s .next) (s .parsed) q .0
   operator-there true q = two-below b at (s .tree) (s .next) (s .parsed) q .0
 
-  pub first-stands : (two : Bool) → getD b at 0 ≡ tagByte two → Stands b (at + 2)
+  pub first-stands : (two : Bool) → getD b at 0 ≡ tagByte two → NodeAt b (at + 2)
   first-stands false q =
       let w = one-below b at (s .tree) (s .next) (s .parsed) q .1 in
       record { tree = w .0; next = s .next; parsed = w .1 }
@@ -108,10 +109,10 @@ module _ (b : List ℕ) (at : ℕ) (s : Stands b at) where
       record { tree = w .0; next = w .1; parsed = w .3 }
 
   module _ (stage : ℕ) (results : List ℕ) (q : getD b at 0 ≡ 4) (first : Walked) (h : NodeMeans stage b results (at + 2) first) where
-    second-at : (m : ℕ) → first .next ≡ m → Stands b m → Stands b (first .next)
+    second-at : (m : ℕ) → first .next ≡ m → NodeAt b m → NodeAt b (first .next)
     second-at m e x = rw e x
 
-    pub second-stands : Stands b (first .next)
+    pub second-stands : NodeAt b (first .next)
     unfolding NodeMeans
     second-stands =
         let w = two-below b at (s .tree) (s .next) (s .parsed) q .1 in
@@ -125,7 +126,8 @@ module _ (b : List ℕ) (at : ℕ) (s : Stands b at) where
 
 -- ---- what a node means, from what the walk found
 module _ (stage : ℕ) (b results : List ℕ) (at : ℕ) (r : Walked) where
-  pub literal-means : getD b at 0 ≡ 1 → (r .answer ≡ valueOf (literalIn (readLiteral false b at) .value)) × (r .next ≡ literalIn (readLiteral false b at) .next) → NodeMeans stage b results at r
+  pub literal-means : getD b at 0 ≡ 1 → (r .answer ≡ valueOf (literalIn (readLiteral false b at) .value)) × (r .next ≡ literalIn (readLiteral false b at) .next)
+      → NodeMeans stage b results at r
   unfolding NodeMeans meaning
   literal-means q e = λ t n p.
       let w = literal-there (p .levels) (p .stages) (p .own) b at t n (p .read) q in

@@ -4,15 +4,15 @@ use mathlib.Core.Bool.{Bool, true, false, _||_}
 use mathlib.Core.List.{List, [], _∷_, _++_}
 use lib.Dec.{eqb}
 use lib.ListN.{length, replicate}
-use Rattle.scalar.specs.Pattern.{pick, properOf, keptOf}
-use Rattle.shape.specs.declared.Instance.{Instance}
-use Rattle.shape.specs.Meaning.{valueOf}
+use Rattle.value.specs.Pattern.{pick, properOf, keptOf}
+use Rattle.operand.specs.declared.Instance.{Instance}
+use Rattle.operand.specs.Outcome.{valueOf}
 use Rattle.slot.specs.Slot.{bytesOf}
-use Rattle.sheet.specs.Read.{Read, found, refused, need}
+use Rattle.sheet.specs.Read.{Read, found, refused, must}
 use Rattle.sheet.specs.Tree.{Entry, setting, expression}
 use Rattle.fold.specs.declared.Folded.{Folded}
 use Rattle.fold.specs.declared.Folded.the-variants.{Done, Refused}
-use Rattle.fold.specs.Fresh.{Means, entryAt, meansOf, refsOf, worked, sized}
+use Rattle.fold.specs.Fresh.{Means, entryAt, meansOf, refsOf, evaluated, sized}
 
 -- new content is a type and 8 bytes; any NaN pattern is kept as its type's one
 unfoldable pub content : ℕ → ℕ → Instance
@@ -27,17 +27,17 @@ unfoldable pub isSetting : Entry → Bool
 isSetting (setting v) = true
 isSetting (expression stage t) = false
 
-unfoldable pub typeOf : Entry → ℕ
-typeOf (setting v) = v .ty
-typeOf (expression stage t) = 0
+unfoldable pub settingType : Entry → ℕ
+settingType (setting v) = v .ty
+settingType (expression stage t) = 0
 
 -- the checks after the sheet's own: ResultsSize, NotASetting (also past the last entry), BadValue, SettingType; 0 if none fails
 unfoldable pub faultOf : List Entry → ℕ → ℕ → ℕ → ℕ → ℕ
 faultOf es size i ty bits =
-    need (sized es size) 30
-    (need (isSetting (entryAt es i)) 31
-    (need (properOf ty bits) 26
-    (need (eqb ty (typeOf (entryAt es i))) 32
+    must (sized es size) 30
+    (must (isSetting (entryAt es i)) 31
+    (must (properOf ty bits) 26
+    (must (eqb ty (settingType (entryAt es i))) 32
     0)))
 
 -- some entry of a list passes
@@ -59,12 +59,12 @@ abbrev pub touched : (ℕ → List ℕ) → ℕ → ℕ → Bool
 touched refs i k = eqb k i || depends refs i k
 
 -- the meanings, but the content for the setting
-unfoldable pub over : Means → ℕ → List ℕ → Means
-over m i c k l = pick (eqb k i) c (m k l)
+unfoldable pub withContent : Means → ℕ → List ℕ → Means
+withContent m i c k l = pick (eqb k i) c (m k l)
 
 -- the setting's slot holds the new content, and its dependents are worked in rising order over the slots as they stand
 unfoldable pub changed : Means → (ℕ → List ℕ) → ℕ → List ℕ → ℕ → List ℕ → List ℕ
-changed m refs i c n l = worked (over m i c) (touched refs i) n l
+changed m refs i c n l = evaluated (withContent m i c) (touched refs i) n l
 
 -- how many of the first n numbers pass
 unfoldable pub tally : (ℕ → Bool) → ℕ → ℕ
@@ -72,9 +72,9 @@ tally p zero = 0
 tally p (suc k) = tally p k + pick (p k) 1 0
 
 -- which of the first n numbers pass
-unfoldable pub table : (ℕ → Bool) → ℕ → List Bool
-table p zero = []
-table p (suc k) = table p k ++ p k ∷ []
+unfoldable pub marksOf : (ℕ → Bool) → ℕ → List Bool
+marksOf p zero = []
+marksOf p (suc k) = marksOf p k ++ p k ∷ []
 
 -- what a change answers: the sheet's own refusals, those above, or the number of dependents
 unfoldable pub changeAnswer : Read (List Entry) → List ℕ → ℕ → ℕ → ℕ → Folded
@@ -90,5 +90,5 @@ changeBytes (refused k p) l i ty bits = l
 
 -- the marks afterwards: of 128 entries those that were worked; a refusal changes none
 unfoldable pub changeMarks : Read (List Entry) → List ℕ → ℕ → ℕ → ℕ → List Bool → List Bool
-changeMarks (found es n) l i ty bits marks = pick (eqb (faultOf es (length l) i ty bits) 0) (table (touched (refsOf es) i) 128) marks
+changeMarks (found es n) l i ty bits marks = pick (eqb (faultOf es (length l) i ty bits) 0) (marksOf (touched (refsOf es) i) 128) marks
 changeMarks (refused k p) l i ty bits marks = marks

@@ -12,7 +12,7 @@ use Rattle.fold.specs.Change.{tally}
 -- an entry depends on a setting if a chain of references leads there, whatever the answers are
 pub data Leads (refs : ℕ → List ℕ) (i : ℕ) : ℕ → Type 0 where
   direct : {k : ℕ} → List·Memᴰ i (refs k) → Leads refs i k
-  through : {k j : ℕ} → List·Memᴰ j (refs k) → Leads refs i j → Leads refs i k
+  chained : {k j : ℕ} → List·Memᴰ j (refs k) → Leads refs i j → Leads refs i k
 
 -- a test tells which of the first n entries depend on i
 pub record Tells (refs : ℕ → List ℕ) (i n : ℕ) (p : ℕ → Bool) : Type 0 where

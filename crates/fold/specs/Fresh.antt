@@ -4,9 +4,9 @@ use mathlib.Core.Bool.{Bool, true}
 use mathlib.Core.List.{List}
 use lib.Dec.{eqb}
 use lib.ListN.{length, getD, replicate}
-use Rattle.scalar.specs.Pattern.{pick}
+use Rattle.value.specs.Pattern.{pick}
 use Rattle.slot.specs.Slot.{bytesOf, put}
-use Rattle.sheet.specs.Read.{Read, found, refused, need}
+use Rattle.sheet.specs.Read.{Read, found, refused, must}
 use Rattle.sheet.specs.Tree.{Entry, literal, expression, namesOf}
 use Rattle.sheet.specs.declared.Checked.{Checked}
 use Rattle.sheet.specs.declared.Checked.the-variants as checked
@@ -30,13 +30,13 @@ unfoldable pub refsOf : List Entry → ℕ → List ℕ
 refsOf es k = namesOf (entryAt es k)
 
 -- a buffer after those of the first n entries that are chosen are worked out in rising order, each over the slots as they then stand
-unfoldable pub worked : Means → (ℕ → Bool) → ℕ → List ℕ → List ℕ
-worked m chosen zero l = l
-worked m chosen (suc k) l = pick (chosen k) (put (worked m chosen k l) k (m k (worked m chosen k l))) (worked m chosen k l)
+unfoldable pub evaluated : Means → (ℕ → Bool) → ℕ → List ℕ → List ℕ
+evaluated m chosen zero l = l
+evaluated m chosen (suc k) l = pick (chosen k) (put (evaluated m chosen k l) k (m k (evaluated m chosen k l))) (evaluated m chosen k l)
 
 -- fresh evaluation fills all slots, settings from their bodies
 unfoldable pub fresh : List Entry → List ℕ → List ℕ
-fresh es l = worked (meansOf es) (λ k. true) (length es) l
+fresh es l = evaluated (meansOf es) (λ k. true) (length es) l
 
 -- what the check of a sheet answers, as an answer of these calls
 abbrev pub foldedOf : Checked → Folded
@@ -49,10 +49,10 @@ sized es size = eqb size (136 * length es)
 
 -- what fresh evaluation answers: the sheet's own refusals, ResultsSize, or the number of entries
 unfoldable pub freshAnswer : Read (List Entry) → List ℕ → Folded
-freshAnswer (found es n) l = need (sized es (length l)) (Refused 30 0) (Done (length es))
+freshAnswer (found es n) l = must (sized es (length l)) (Refused 30 0) (Done (length es))
 freshAnswer (refused k p) l = Refused k p
 
 -- the buffer afterwards; a refusal changes no byte
 unfoldable pub freshBytes : Read (List Entry) → List ℕ → List ℕ
-freshBytes (found es n) l = need (sized es (length l)) l (fresh es l)
+freshBytes (found es n) l = must (sized es (length l)) l (fresh es l)
 freshBytes (refused k p) l = l

@@ -5,21 +5,22 @@ use mathlib.Core.Bool.{Bool, true, false}
 use mathlib.Core.List.{List}
 use lib.ListN.{length, take, set}
 use lib.Dec.{ltb}
-use Rattle.scalar.specs.Pattern.{pick}
-use Rattle.shape.specs.declared.Outcome.{Outcome}
+use Rattle.value.specs.Pattern.{pick}
+use Rattle.operand.specs.declared.Outcome.{Outcome}
 use Rattle.slot.specs.Slot.{put}
 use Rattle.sheet.specs.Read.{found}
 use Rattle.sheet.specs.Tree.{Expr, Entry}
-use Rattle.sheet.specs.Node.{readNode, anyMarked}
-use Rattle.sheet.specs.Record.{readBody}
+use Rattle.sheet.specs.Node.{readNode, namesIn, anyMarked}
+use Rattle.sheet.specs.Record.{bodyAt, readBody}
 use Rattle.sheet.specs.Sheet.{readRecords}
 use Rattle.fold.specs.declared.walk.Walked.{Walked}
+use Rattle.fold.specs.declared.spans.Span.{Span}
 use Rattle.fold.specs.declared.turns.Advance.{Advance}
 use Rattle.fold.specs.declared.turns.Setting.{Setting}
 use Rattle.fold.specs.declared.turns.Setting.the-variants.{Of, None}
 use Rattle.fold.specs.Meaning.{meaning, entryMeaning}
 use Rattle.fold.specs.Fresh.{entryAt, meansOf, refsOf, fresh}
-use Rattle.fold.specs.Change.{isSetting, typeOf, faultOf, contentBytes, depends, touched, changed, tally, table}
+use Rattle.fold.specs.Change.{isSetting, settingType, faultOf, contentBytes, depends, touched, changed, tally, marksOf}
 
 -- ---- a node
 -- this tree stands at this place of a body and ends there
@@ -30,7 +31,7 @@ pub record Parsed (b : List ℕ) (at : ℕ) (t : Expr) (next : ℕ) : Type 0 whe
   pub read : readNode levels stages own b at ≡ found t next
 
 -- some tree stands there
-pub record Stands (b : List ℕ) (at : ℕ) : Type 0 where
+pub record NodeAt (b : List ℕ) (at : ℕ) : Type 0 where
   pub tree : Expr
   pub next : ℕ
   pub parsed : Parsed b at tree next
@@ -72,13 +73,18 @@ pub record Here (s : List ℕ) (k at : ℕ) : Type 0 where
   pub place : At s entries k at
   pub more : k < length entries
 
--- the place after the record
-unfoldable pub Next : List ℕ → ℕ → ℕ → Type 0
-Next s at r = (es : List Entry) (k : ℕ) → At s es k at → k < length es → At s es (k + 1) r
+-- the record of entry k: its body, the entries that the body names, and the place after it
+pub record Spans (s : List ℕ) (es : List Entry) (k : ℕ) (r : Span) : Type 0 where
+  pub body : Body (r .stage) (bodyAt s (r .start) (r .len)) (entryAt es k)
+  pub names : namesIn (bodyAt s (r .start) (r .len)) ≡ refsOf es k
+  pub after : At s es (k + 1) (r .next)
+
+unfoldable pub SpanAt : List ℕ → ℕ → Span → Type 0
+SpanAt s at r = (es : List Entry) (k : ℕ) → At s es k at → k < length es → Spans s es k r
 
 -- what the record at a place says of a setting
 unfoldable pub SettingAt : List ℕ → ℕ → Setting → Type 0
-SettingAt s at r = (es : List Entry) (k : ℕ) → At s es k at → k < length es → r ≡ pick (isSetting (entryAt es k)) (Of (typeOf (entryAt es k))) None
+SettingAt s at r = (es : List Entry) (k : ℕ) → At s es k at → k < length es → r ≡ pick (isSetting (entryAt es k)) (Of (settingType (entryAt es k))) None
 
 -- the slot of entry k is worked out over l, giving r; its record ends at next
 pub record FilledOne (s : List ℕ) (es : List Entry) (k : ℕ) (l r : List ℕ) (next : ℕ) : Type 0 where
@@ -126,7 +132,7 @@ pub record Ready (s : List ℕ) (n i place : ℕ) : Type 0 where
 -- entry i of n was given the content, and its dependents were worked, marked and counted
 pub record AppliedTo (es : List Entry) (n i ty bits : ℕ) (l r : List ℕ) (ms : List Bool) (count : ℕ) : Type 0 where
   pub wrote : r ≡ changed (meansOf es) (refsOf es) i (contentBytes ty bits) n l
-  pub marked : ms ≡ table (touched (refsOf es) i) 128
+  pub marked : ms ≡ marksOf (touched (refsOf es) i) 128
   pub counted : count ≡ tally (depends (refsOf es) i) n
 
 unfoldable pub Applied : List ℕ → ℕ → ℕ → ℕ → ℕ → ℕ → List ℕ → List ℕ → List Bool → ℕ → Type 0

@@ -2,9 +2,10 @@
 use Prim.Native.Nat.{ℕ}
 use mathlib.Core.List.{List}
 use lib.Dec.{eqb}
-use Rattle.scalar.specs.Pattern.{pick}
-use Rattle.shape.specs.declared.Outcome.{Outcome}
-use Rattle.shape.specs.Meaning.{valueOf, unaryMeaning, binaryMeaning}
+use Rattle.value.specs.Pattern.{pick}
+use Rattle.operand.specs.declared.Outcome.{Outcome}
+use Rattle.operand.specs.Outcome.{valueOf}
+use Rattle.dispatch.specs.Meaning.{unaryMeaning, binaryMeaning}
 use Rattle.slot.specs.Slot.{referenceTo}
 use Rattle.sheet.specs.Tree.{Expr, literal, reference, unary, binary, Entry, setting, expression}
 

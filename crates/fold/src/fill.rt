@@ -1,5 +1,5 @@
 // Fresh evaluation: every entry of an accepted sheet, one record after another.
-use sheet::Head;
+use crate::spans::span_at;
 ghost use mathlib.Core.Path.{_≡_};
 ghost use Prim.Native.Nat.{_*_};
 ghost use lib.Dec.{eqb};
@@ -17,13 +17,11 @@ fn fill_one(s: &[u8], results: &mut [u8], k: usize, at: usize) -> usize
     requires { ⌜ Here (now s) k at ⌝ }
     ensures { λ r. ⌜ Fills (now (s .entry)) k at (now (results .entry)) (now (results .exit)) r ⌝ }
 {
-    let Head::Record { stage, start, len } = sheet::read_head(s, at) else {
-        return at;
-    };
-    let b = sheet::body(s, start, len);
-    let o = crate::walk::work(b, results, stage);
+    let r = span_at(s, at);
+    let b = sheet::body(s, r.start, r.len);
+    let o = crate::walk::work(b, results, r.stage);
     slot::put(results, k, o);
-    start + len
+    r.next
 }
 
 // Fills the slots of all n entries in order.

@@ -1,5 +1,6 @@
 // A sheet's results: fresh evaluation, and the change of one setting.
 mod fill;
+mod spans;
 mod turns;
 mod walk;
 
@@ -16,7 +17,7 @@ pub enum Folded {
 }
 
 // The answer of a check as an answer of these calls.
-fn told(seen: Checked) -> Folded
+fn answer_of(seen: Checked) -> Folded
     ensures { λ r. ⌜ r ≡ foldedOf seen ⌝ }
 {
     match seen {
@@ -29,7 +30,7 @@ fn told(seen: Checked) -> Folded
 pub fn check(sheet: &[u8]) -> Folded
     ensures { λ r. ⌜ r ≡ foldedOf (checkedOf (readSheet (now (sheet .entry)))) ⌝ }
 {
-    told(sheet::check(sheet))
+    answer_of(sheet::check(sheet))
 }
 
 // Fresh evaluation: fills every slot of the results in order, whatever they held. Answers the number of entries.
@@ -39,7 +40,7 @@ pub fn evaluate(sheet: &[u8], results: &mut [u8]) -> Folded
 {
     let seen = sheet::check(sheet);
     let Checked::Good(n) = seen else {
-        return told(seen);
+        return answer_of(seen);
     };
     if !fill::sized(results.len(), n) {
         return Folded::Refused(30, 0);
@@ -63,7 +64,7 @@ pub fn change_marking(
 {
     let seen = sheet::check(sheet);
     let Checked::Good(n) = seen else {
-        return told(seen);
+        return answer_of(seen);
     };
     let at = turns::find(sheet, n, entry);
     let fault = turns::judge(sheet, results, n, at, entry, ty, bits);

@@ -1,17 +1,17 @@
 // What the body of an entry means over the slots: a node's walk and the walk of its operands call one another.
-use shape::Outcome;
+use operand::Outcome;
 ghost use mathlib.Core.Path.{_≡_};
 ghost use mathlib.Core.Bool.{false};
 ghost use Prim.Native.Nat.{_+_, _<_};
 ghost use lib.Dec.{eqb};
 ghost use lib.ListN.{length, getD};
-ghost use Rattle.scalar.specs.Pattern.{pick};
+ghost use Rattle.value.specs.Pattern.{pick};
 ghost use Rattle.slot.specs.Slot.{referenceTo};
-ghost use Rattle.shape.specs.Meaning.{valueOf};
+ghost use Rattle.operand.specs.Outcome.{valueOf};
 ghost use Rattle.sheet.specs.Node.{readLiteral, literalIn};
 ghost use Rattle.fold.specs.declared.walk.Operand.the-variants.{Value, Ends};
 ghost use Rattle.fold.specs.Meaning.{onOne, onTwo};
-ghost use Rattle.fold.specs.Inside.{Stands, NodeMeans, Bodied, BodyMeans, tagByte};
+ghost use Rattle.fold.specs.Inside.{NodeAt, NodeMeans, Bodied, BodyMeans, tagByte};
 
 // What a node means, and the place after it.
 pub struct Walked {
@@ -67,7 +67,7 @@ fn walk_literal(b: &[u8], at: usize) -> Walked
 {
     let x = sheet::literal_at(b, at);
     let v = x.value;
-    let answer = shape::answered(v);
+    let answer = operand::answered(v);
     Walked {
         answer,
         next: x.next,
@@ -88,7 +88,7 @@ fn walk_reference(b: &[u8], results: &[u8], at: usize) -> Walked
 
 // The node at a place of an accepted body, and all below it.
 fn walk_node(b: &[u8], results: &[u8], stage: u8, at: usize) -> Walked
-    requires { ⌜ Stands (now b) at ⌝ }
+    requires { ⌜ NodeAt (now b) at ⌝ }
     ensures { λ r. ⌜ NodeMeans stage (now (b .entry)) (now (results .entry)) at r ⌝ }
 {
     let tag = b[at];
@@ -102,7 +102,7 @@ fn walk_node(b: &[u8], results: &[u8], stage: u8, at: usize) -> Walked
 
 // An operator node: both operands are worked out before either is looked at.
 fn walk_operands(b: &[u8], results: &[u8], stage: u8, at: usize, two: bool) -> Walked
-    requires { ⌜ Stands (now b) at × (getD (now b) at 0 ≡ tagByte two) ⌝ }
+    requires { ⌜ NodeAt (now b) at × (getD (now b) at 0 ≡ tagByte two) ⌝ }
     ensures { λ r. ⌜ NodeMeans stage (now (b .entry)) (now (results .entry)) at r ⌝ }
 {
     let op = b[at + 1];

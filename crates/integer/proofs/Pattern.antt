@@ -29,12 +29,12 @@ pub above : (x : ℤ) → ltZ x (pos 0) ≡ false → (n : ℕ) × (x ≡ pos n)
 above (pos n) e = (n, refl)
 above (negsuc n) e = absurd (subst T e tt)
 
-over : (m n : ℕ) → (m - 1) - n ≡ m - suc n
-over m n = omega arith
+less-one : (m n : ℕ) → (m - 1) - n ≡ m - suc n
+less-one m n = omega arith
 
 -- `!x` on a signed x
 pub not-is : (w : Width) (x : ℤ) → SFits w x → toZ w ((2 ^ bits w - 1) - ofZ w x) ≡ notZ x
-not-is w (pos n) f = ap (toZ w) (over (2 ^ bits w) n) ∙ toZ-neg w n (f .sfits)
+not-is w (pos n) f = ap (toZ w) (less-one (2 ^ bits w) n) ∙ toZ-neg w n (f .sfits)
 not-is w (negsuc n) f = ap (toZ w) (back (2 ^ bits w) n (half-full w (f .sfits))) ∙ toZ-pos w n (f .sfits)
   where
     back : (m n : ℕ) → n < m → (m - 1) - (m - suc n) ≡ n
@@ -54,7 +54,7 @@ module _ (w : Width) (x : ℤ) (f : SFits w x) (e : ltZ (toZ w (ofZ w x)) (pos 0
   neg-cast = let (n, q, t, l) = form in rw t (tt, record { fits = half-full w l })
 
   pub neg-back : (2 ^ bits w - 1) - natAbs turned-over ≡ ofZ w x
-  neg-back = let (n, q, t, l) = form in ap (λ (z : ℤ). (2 ^ bits w - 1) - natAbs z) t ∙ over (2 ^ bits w) n ∙ ap (ofZ w) (sym q)
+  neg-back = let (n, q, t, l) = form in ap (λ (z : ℤ). (2 ^ bits w - 1) - natAbs z) t ∙ less-one (2 ^ bits w) n ∙ ap (ofZ w) (sym q)
 
   pub mag-neg : natAbs turned-over ≡ mag x
   mag-neg = let (n, q, t, l) = form in ap natAbs t ∙ ap mag (sym q)

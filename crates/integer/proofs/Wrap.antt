@@ -80,22 +80,22 @@ respects-sub w x y = wrap-sub w x y (wrapU w d) (wrapU-fits w d) back
 
 -- r has the bits s that the operation makes of a and b, the bits of x and y
 -- (a signed argument of a call arrives as it is read back from its bits, `toZ w (ofZ w x)`)
-seen : (w : Width) {x : ℤ} {a : ℕ} → SFits w x → a ≡ ofZ w (toZ w (ofZ w x)) → a ≡ wrapU w x
-seen w {x} f p = p ∙ ap (ofZ w) (toZ-ofZ w x f) ∙ bits-wrap w x f
+bits-seen : (w : Width) {x : ℤ} {a : ℕ} → SFits w x → a ≡ ofZ w (toZ w (ofZ w x)) → a ≡ wrapU w x
+bits-seen w {x} f p = p ∙ ap (ofZ w) (toZ-ofZ w x f) ∙ bits-wrap w x f
 
-back : (w : Width) (z r : ℤ) (s : ℕ) → s ≡ wrapU w z → r ≡ toZ w s → toZ w (ofZ w r) ≡ wrapS w z
+read-wrapped : (w : Width) (z r : ℤ) (s : ℕ) → s ≡ wrapU w z → r ≡ toZ w s → toZ w (ofZ w r) ≡ wrapS w z
 unfolding wrapS
-back w z r s t e = ap (λ (x : ℤ). toZ w (ofZ w x)) e ∙ toZ-ofZ w (toZ w s) (toZ-fits w s (rw t (wrapU-fits w z))) ∙ ap (toZ w) t
+read-wrapped w z r s t e = ap (λ (x : ℤ). toZ w (ofZ w x)) e ∙ toZ-ofZ w (toZ w s) (toZ-fits w s (rw t (wrapU-fits w z))) ∙ ap (toZ w) t
 
-pub made : (w : Width) (op : ℤ → ℤ → ℤ) → Respects w op → {x y r : ℤ} {a b s : ℕ} → SFits w x → SFits w y
+pub wrapped-is : (w : Width) (op : ℤ → ℤ → ℤ) → Respects w op → {x y r : ℤ} {a b s : ℕ} → SFits w x → SFits w y
     → a ≡ ofZ w (toZ w (ofZ w x)) → b ≡ ofZ w (toZ w (ofZ w y)) → s ≡ wrapU w (op (pos a) (pos b)) → r ≡ toZ w s → toZ w (ofZ w r) ≡ wrapS w (op x y)
-made w op h {x} {y} {r} {a} {b} {s} f g p q t e =
-    back w (op x y) r s (t ∙ ap₂ (λ (a b : ℕ). wrapU w (op (pos a) (pos b))) (seen w f p) (seen w g q) ∙ h x y) e
+wrapped-is w op h {x} {y} {r} {a} {b} {s} f g p q t e =
+    read-wrapped w (op x y) r s (t ∙ ap₂ (λ (a b : ℕ). wrapU w (op (pos a) (pos b))) (bits-seen w f p) (bits-seen w g q) ∙ h x y) e
 
 -- the same of a negation, by the difference from 0
-pub made-neg : (w : Width) {x r : ℤ} {b s : ℕ} → SFits w x → Fits w s
+pub wrapped-neg : (w : Width) {x r : ℤ} {b s : ℕ} → SFits w x → Fits w s
     → b ≡ ofZ w (toZ w (ofZ w x)) → (s + b) % 2 ^ bits w ≡ 0 → r ≡ toZ w s → toZ w (ofZ w r) ≡ wrapS w (negℤ x)
-made-neg w {x} {r} {b} {s} f l q t e = back w (negℤ x) r s (wrap-sub w (pos 0) x s l sum ∙ ap (wrapU w) (+ℤ-idl (negℤ x))) e
+wrapped-neg w {x} {r} {b} {s} f l q t e = read-wrapped w (negℤ x) r s (wrap-sub w (pos 0) x s l sum ∙ ap (wrapU w) (+ℤ-idl (negℤ x))) e
   where
     sum : (s + wrapU w x) % 2 ^ bits w ≡ wrapU w (pos 0)
-    sum = ap (λ (b : ℕ). (s + b) % 2 ^ bits w) (sym (seen w f q)) ∙ t ∙ sym (small w 0 (record { fits = pow-pos (bits w) }))
+    sum = ap (λ (b : ℕ). (s + b) % 2 ^ bits w) (sym (bits-seen w f q)) ∙ t ∙ sym (small w 0 (record { fits = pow-pos (bits w) }))

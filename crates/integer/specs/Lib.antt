@@ -1,5 +1,4 @@
 -- What this crate's promises say, each over the width. Assumes nothing.
 pub mod Wrap
 pub mod Range
-pub mod Quotient
-pub mod Shift
+pub mod Equal

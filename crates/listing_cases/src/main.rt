@@ -6,18 +6,11 @@ use libc::STDIN_FILENO;
 use libc::STDOUT_FILENO;
 
 // Where the line ends that starts at a place.
-fn end(text: &[u8], from: usize) -> usize
+fn line_end(text: &[u8], from: usize) -> usize
     requires { ⌜ from ≤ length (now text) ⌝ }
     ensures { λ r. ⌜ (from ≤ r) × (r ≤ length (now (text .entry))) ⌝ }
 {
-    let mut i = from;
-    while i < text.len() {
-        if text[i] == b'\n' {
-            return i;
-        }
-        i += 1;
-    }
-    i
+    words::end_of(text, from, b'\n')
 }
 
 // The words of a line at the start of a buffer, each ended by a byte 0. Says how many bytes they take.
@@ -53,7 +46,7 @@ fn command(line: &[u8]) {
 fn script(text: &[u8]) {
     let mut at = 0;
     while at < text.len() {
-        let e = end(text, at);
+        let e = line_end(text, at);
         command(&text[at..e]);
         at = e + 1;
     }

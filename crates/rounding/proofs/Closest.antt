@@ -1,22 +1,14 @@
 -- `closest n d`, n / d to a whole number: none is nearer, and of two as near it is the even one. Assumes nothing.
 use Prim.Native.Nat.{ℕ, suc, _+_, _-_, _*_, _/_, _%_, _≤_, _<_, compare, Ordering, Ordering·lt, Ordering·eq, Ordering·gt}
 use mathlib.Core.Path.{_≡_, refl, sym, ap, _∙_}
-use mathlib.Core.Bool.{Bool, true, false, not}
 use mathlib.Core.Logic.{_⊎_, inl, inr}
 use native.Mathlib.Nat.{eq-or-lt-of-le, eq-zero-or-pos, mod-lt, div-eq-of-lt, div-eq-of-lt-le, mul-le-mul-right, suc-mul, div-add-mod', add-suc, mul-add-div-right, mul-add-mod-self-right}
 use native.Mathlib.Omega.{arith}
-use lib.Dec.{T, ltb, ltb→lt, nltb→le}
 use lib.Ieee.{nearest}
 use lib.Ieee.Nearest.{closest}
-use Rattle.rounding.specs.Nearest.{apart}
+use Rattle.integer.proofs.Order.{le-or-lt}
+use Rattle.rounding.specs.Nearest.{distance}
 use Rattle.rounding.proofs.Cut.{rounds-down, rounds-even, rounds-up}
-
-pub le-or-lt : (a b : ℕ) → (a ≤ b) ⊎ (b < a)
-le-or-lt a b = go (ltb b a) (ltb→lt b a) (nltb→le b a)
-  where
-    go : (t : Bool) → (T t → b < a) → (T (not t) → a ≤ b) → (a ≤ b) ⊎ (b < a)
-    go true h k = inr (h tt)
-    go false h k = inl (k tt)
 
 -- of n = f * d + r: q is f or the next number, by where r lies, and even where r is half of d
 abbrev pub Side : ℕ → ℕ → ℕ → ℕ → Type 0
@@ -55,17 +47,17 @@ module _ (n d f r q : ℕ) (e : f * d + r ≡ n) (l : r < d) (at : Side f r d q)
       go (inl (s, h, t)) = let a : q * d ≡ f * d = ap (λ (x : ℕ). x * d) s in (omega arith, omega arith)
       go (inr (s, h, t)) = let a : q * d ≡ f * d + d = ap (λ (x : ℕ). x * d) s ∙ suc-mul f d in (omega arith, omega arith)
 
-  near-at : (w : ℕ) → apart (q * d) n ≤ apart (w * d) n
+  near-at : (w : ℕ) → distance (q * d) n ≤ distance (w * d) n
   near-at w = go at (le-or-lt w f)
     where
-      go : Side f r d q → (w ≤ f) ⊎ (f < w) → apart (q * d) n ≤ apart (w * d) n
+      go : Side f r d q → (w ≤ f) ⊎ (f < w) → distance (q * d) n ≤ distance (w * d) n
       go (inl (s, h, t)) (inl b) = let a : q * d ≡ f * d = ap (λ (x : ℕ). x * d) s in omega (arith, mul-le-mul-right d b)
       go (inl (s, h, t)) (inr b) = let a : q * d ≡ f * d = ap (λ (x : ℕ). x * d) s in omega (arith, mul-le-mul-right d b, suc-mul f d)
       go (inr (s, h, t)) (inl b) = let a : q * d ≡ f * d + d = ap (λ (x : ℕ). x * d) s ∙ suc-mul f d in omega (arith, mul-le-mul-right d b)
       go (inr (s, h, t)) (inr b) = let a : q * d ≡ f * d + d = ap (λ (x : ℕ). x * d) s ∙ suc-mul f d in omega (arith, mul-le-mul-right d b, suc-mul f d)
 
   -- a w below f, or above the number after f, is a whole d further away
-  tie-at : (w : ℕ) → apart (w * d) n ≡ apart (q * d) n → (w ≡ q) ⊎ (q % 2 ≡ 0)
+  tie-at : (w : ℕ) → distance (w * d) n ≡ distance (q * d) n → (w ≡ q) ⊎ (q % 2 ≡ 0)
   tie-at w g = go at (le-or-lt w f)
     where
       go : Side f r d q → (w ≤ f) ⊎ (f < w) → (w ≡ q) ⊎ (q % 2 ≡ 0)
@@ -85,10 +77,10 @@ module _ (n d f r q : ℕ) (e : f * d + r ≡ n) (l : r < d) (at : Side f r d q)
           ]
 
 module _ (n d : ℕ) (D : 0 < d) where
-  pub near : (w : ℕ) → apart (closest n d * d) n ≤ apart (w * d) n
+  pub near : (w : ℕ) → distance (closest n d * d) n ≤ distance (w * d) n
   near = near-at n d (n / d) (n % d) (closest n d) (div-add-mod' n d) (mod-lt n D) (side n d D)
 
-  pub even-at-tie : (w : ℕ) → apart (w * d) n ≡ apart (closest n d * d) n → (w ≡ closest n d) ⊎ (closest n d % 2 ≡ 0)
+  pub even-at-tie : (w : ℕ) → distance (w * d) n ≡ distance (closest n d * d) n → (w ≡ closest n d) ⊎ (closest n d % 2 ≡ 0)
   even-at-tie = tie-at n d (n / d) (n % d) (closest n d) (div-add-mod' n d) (mod-lt n D) (side n d D)
 
   pub within-half : (2 * n ≤ 2 * (closest n d * d) + d) × (2 * (closest n d * d) ≤ 2 * n + d)

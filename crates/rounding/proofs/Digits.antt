@@ -2,7 +2,8 @@
 use Prim.Native.Nat.{ℕ, suc, _+_, _-_, _*_, _/_, _^_, _≤_, _<_}
 use mathlib.Core.Path.{_≡_, sym, ap, _∙_, subst}
 use mathlib.Core.Logic.{_⊎_, inl, inr}
-use native.Mathlib.Nat.{le-trans, le-of-eq, le-antisymm, lt-irrefl, lt-of-lt-of-le, lt-of-le-of-lt, lt-of-not-le, eq-or-lt-of-le, mul-one, mul-comm, mul-assoc, suc-mul, mul-le-mul-right, mul-div-cancel, pow-succ'}
+use native.Mathlib.Nat.{le-trans, le-of-eq, le-antisymm, lt-irrefl, lt-of-lt-of-le, lt-of-le-of-lt, lt-of-not-le, eq-or-lt-of-le}
+use native.Mathlib.Nat.{mul-one, mul-comm, mul-assoc, suc-mul, mul-le-mul-right, mul-div-cancel, pow-succ'}
 use native.Mathlib.Omega.{arith}
 use lib.Pow.{pow-add, pow-pos, pow-mono, pow-lt, shl-lt}
 use lib.Ieee.{size}
@@ -38,8 +39,8 @@ size-few p n h = at (size n) (size-le n p h)
     at z e = omega arith
 
 -- ---- the fields of q * 2 ^ j units
-abbrev pub Whole : ℕ → ℕ → ℕ → Type 0
-Whole p j q = (j ≡ 0) ⊎ (2 ^ (p - 1) ≤ q)
+abbrev pub AllDigits : ℕ → ℕ → ℕ → Type 0
+AllDigits p j q = (j ≡ 0) ⊎ (2 ^ (p - 1) ≤ q)
 
 abbrev pub field : ℕ → ℕ → ℕ
 field p n = (size n - p) * 2 ^ (p - 1) + n / 2 ^ (size n - p)
@@ -50,7 +51,7 @@ Written p q j =
     ((size (q * 2 ^ j) - p ≡ j) × (q * 2 ^ j / 2 ^ j ≡ q) × (q < 2 ^ p))
     ⊎ ((q ≡ 2 * 2 ^ (p - 1)) × (size (q * 2 ^ j) - p ≡ suc j) × (q * 2 ^ j / 2 ^ suc j ≡ 2 ^ (p - 1)) × (q * 2 ^ j ≡ 2 ^ (p - 1) * 2 ^ suc j))
 
-pub written : (p q j : ℕ) → 0 < p → q ≤ 2 ^ p → Whole p j q → Written p q j
+pub written : (p q j : ℕ) → 0 < p → q ≤ 2 ^ p → AllDigits p j q → Written p q j
 written p q j P l w = go (eq-or-lt-of-le l) w
   where
     h : ℕ
@@ -77,7 +78,7 @@ written p q j P l w = go (eq-or-lt-of-le l) w
 field-at : (p n j : ℕ) → size n - p ≡ j → field p n ≡ j * 2 ^ (p - 1) + n / 2 ^ j
 field-at p n j e = ap (λ (x : ℕ). x * 2 ^ (p - 1) + n / 2 ^ x) e
 
-pub packed : (p q j : ℕ) → 0 < p → q ≤ 2 ^ p → Whole p j q → field p (q * 2 ^ j) ≡ j * 2 ^ (p - 1) + q
+pub packed : (p q j : ℕ) → 0 < p → q ≤ 2 ^ p → AllDigits p j q → field p (q * 2 ^ j) ≡ j * 2 ^ (p - 1) + q
 packed p q j P l w = go (written p q j P l w)
   where
     join : (a b h q : ℕ) → a ≡ b + h → q ≡ 2 * h → a + h ≡ b + q

@@ -13,19 +13,19 @@ use Rattle.rounding.specs.Bits.{finite, ofBits, ofFields, hidden, full, 
 use Rattle.rounding.proofs.Units.{odd-finite}
 use Rattle.rounding.proofs.Fields.{read, fields-low, fields-mid, fields-inf, fields-nan}
 
-pub above : (x : Float) → lt (inf true) x ≡ true → lt x (inf false) ≡ finite x
+pub finite-above : (x : Float) → lt (inf true) x ≡ true → lt x (inf false) ≡ finite x
 unfolding lt
-above nan h = refl
-above (inf true) h = sym h
-above (inf false) h = refl
-above (fin s m e) h = refl
+finite-above nan h = refl
+finite-above (inf true) h = sym h
+finite-above (inf false) h = refl
+finite-above (fin s m e) h = refl
 
-pub below : (x : Float) → lt (inf true) x ≡ false → false ≡ finite x
+pub finite-below : (x : Float) → lt (inf true) x ≡ false → false ≡ finite x
 unfolding lt
-below nan h = refl
-below (inf true) h = refl
-below (inf false) h = refl
-below (fin s m e) h = sym h
+finite-below nan h = refl
+finite-below (inf true) h = refl
+finite-below (inf false) h = refl
+finite-below (fin s m e) h = sym h
 
 -- ---- by the bits
 module _ (k : Kind) (s : Bool) (x t : ℕ) where

@@ -61,9 +61,6 @@ module _ (source k : Kind) (b : ℕ) (top : b % signed source / hidden source �
 
 -- ---- the weights as the code works them out
 module _ (p r : ℕ) (small : p ≤ 24) where
-  W : ℕ
-  W = 1 * 2 ^ (p - 1) % 2 ^ 64
-
   pub most-is : (1 * 2 ^ (p - 1) % 2 ^ 64) * (2 * r + 1) ≡ full (kind p r) * hidden (kind p r)
   most-is = ap (λ (w : ℕ). w * (2 * r + 1)) (weight-is p small) ∙ mul-comm (2 ^ (p - 1)) (2 * r + 1)
 

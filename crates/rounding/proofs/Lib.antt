@@ -1,6 +1,7 @@
 -- Laws, each once over the kind.
 pub mod Same
 pub mod Single
+pub mod Impostors
 pub mod Nan
 pub mod Fields
 pub mod Digits

@@ -33,10 +33,7 @@ module _ (m : ℕ) (pos : 0 < m) (fits : m < 2 ^ 64) where
   pub top-is : m * 2 ^ Z m % 2 ^ 64 ≡ m * 2 ^ Z m
   top-is = mod-eq-of-lt top-hi
 
-  module _ (a c p : ℕ) (two : 2 ≤ p) (small : p ≤ 24) where
-    top : ℕ
-    top = m * 2 ^ Z m
-
+  module _ (p : ℕ) (two : 2 ≤ p) (small : p ≤ 24) where
     kept-lt : m * 2 ^ Z m / 2 ^ (64 - p) < 2 ^ p
     kept-lt = let e : p + (64 - p) ≡ 64 = omega arith in shr-lt p (64 - p) (subst (λ (x : ℕ). m * 2 ^ Z m < 2 ^ x) (sym e) top-hi)
 
@@ -45,18 +42,19 @@ module _ (m : ℕ) (pos : 0 < m) (fits : m < 2 ^ 64) where
         let e : p - 1 + (64 - p) ≡ 63 = omega arith in
         le-div-iff-mul-le (pow-pos (64 - p)) .1 (le-trans (le-of-eq (sym (pow-add 2 (p - 1) (64 - p)) ∙ ap (λ (x : ℕ). 2 ^ x) e)) top-lo)
 
-    pub wide : c + Z m + p ≤ 64 + a
+    pub packed-full : (a c : ℕ) → c + Z m + p ≤ 64 + a
         → (64 + a - (c + Z m) - p) * 2 ^ (p - 1) + closest (m * 2 ^ Z m) (2 ^ (64 - p)) ≡ pack p (m * 2 ^ a) (2 ^ c)
-    wide h =
+    packed-full a c h =
         let j = 64 + a - (c + Z m) - p in
         let e : a + (64 - p) ≡ Z m + j + c = omega arith in
+        let f : 2 ^ a * 2 ^ (64 - p) ≡ 2 ^ (Z m + j) * 2 ^ c = sym (pow-add 2 a (64 - p)) ∙ ap (λ (x : ℕ). 2 ^ x) e ∙ pow-add 2 (Z m + j) c in
+        let g : m * 2 ^ (Z m + j) ≡ m * 2 ^ Z m * 2 ^ j = ap (λ (x : ℕ). m * x) (pow-add 2 (Z m) j) ∙ sym (mul-assoc m (2 ^ Z m) (2 ^ j)) in
         sym (pack-as p (m * 2 ^ a) (2 ^ c) (m * 2 ^ Z m) (64 - p) j (omega arith) (pow-pos c)
-        (mul-assoc m (2 ^ a) (2 ^ (64 - p)) ∙ ap (λ (x : ℕ). m * x) (sym (pow-add 2 a (64 - p)) ∙ ap (λ (x : ℕ). 2 ^ x) e ∙ pow-add 2 (Z m + j) c ∙ ap (λ (x : ℕ). x * 2 ^ c) (pow-add 2 (Z m) j))
-        ∙ sym (mul-assoc m (2 ^ Z m * 2 ^ j) (2 ^ c)) ∙ ap (λ (x : ℕ). x * 2 ^ c) (sym (mul-assoc m (2 ^ Z m) (2 ^ j))))
+        (mul-assoc m (2 ^ a) (2 ^ (64 - p)) ∙ ap (λ (x : ℕ). m * x) f ∙ sym (mul-assoc m (2 ^ (Z m + j)) (2 ^ c)) ∙ ap (λ (x : ℕ). x * 2 ^ c) g)
         (kept-lt, inr kept-ge))
 
-    pub narrow : 64 + a < c + Z m + p → closest (m * 2 ^ Z m) (2 ^ (c + Z m - a)) ≡ pack p (m * 2 ^ a) (2 ^ c)
-    narrow h =
+    pub packed-few : (a c : ℕ) → 64 + a < c + Z m + p → closest (m * 2 ^ Z m) (2 ^ (c + Z m - a)) ≡ pack p (m * 2 ^ a) (2 ^ c)
+    packed-few a c h =
         let d = c + Z m - a in
         let e : a + d ≡ Z m + c = omega (arith, zeros-lt) in
         let f : 64 ≤ p + d = omega (arith, zeros-lt) in

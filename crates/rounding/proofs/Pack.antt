@@ -3,9 +3,9 @@ use Prim.Native.Nat.{ℕ, _+_, _-_, _*_, _/_, _%_, _^_, _≤_, _<_, min, compare
 use mathlib.Core.Path.{_≡_, refl, sym, ap, _∙_, subst}
 use mathlib.Core.Bool.{Bool, cond}
 use mathlib.Core.Logic.{_⊎_, inl, inr}
-use native.Mathlib.Nat.{le-suc, le-trans, le-of-eq, lt-of-lt-of-le, mul-one, mul-comm, mul-assoc, mul-right-comm, mul-pos, mul-le-mul-right, mul-lt-mul-of-pos-right, div-div-eq-div-mul, eq-zero-or-pos, le-div-iff-mul-le, div-lt-iff-lt-mul}
+use native.Mathlib.Nat.{le-suc, le-trans, le-of-eq, lt-of-lt-of-le, eq-zero-or-pos, div-div-eq-div-mul, le-div-iff-mul-le, div-lt-iff-lt-mul}
+use native.Mathlib.Nat.{mul-one, mul-comm, mul-assoc, mul-right-comm, mul-pos, mul-le-mul-right, mul-lt-mul-of-pos-right}
 use native.Mathlib.Omega.{arith}
-use lib.Dec.{ltb}
 use lib.Pow.{pow-add, pow-pos}
 use lib.Ieee.{Float, fin, up, down, size, odd}
 use lib.Ieee.Digits.{size-reaches}
@@ -13,10 +13,10 @@ use lib.Ieee.Fits.{nearest-le, kept-lt, down-pos}
 use lib.Ieee.Exact.{HasValue, odd-sign}
 use lib.Ieee.Nearest.{closest, closest-same, div-same, nearest-ge}
 use Rattle.rounding.specs.Kind.{Kind, least, unitsIn, roundTo, convert}
-use Rattle.rounding.specs.Bits.{hidden, full, signed, toBits, finite}
+use Rattle.rounding.specs.Bits.{hidden, full, signed, toBits}
 use Rattle.rounding.specs.Pack.{pack}
-use Rattle.rounding.proofs.Digits.{Whole, size-full, size-few}
-use Rattle.rounding.proofs.Units.{Sized, units-finite, units-bits}
+use Rattle.rounding.proofs.Digits.{AllDigits, size-full, size-few}
+use Rattle.rounding.proofs.Units.{Sized, units-bits}
 
 -- ---- from a fraction to the units that are kept
 -- m / 2 ^ d has the digits that the format keeps, or fewer with nothing dropped
@@ -29,17 +29,19 @@ kept-size p m d j P (hi, inl z) =
 kept-size p m d j P (hi, inr lo) =
     let a : 2 ^ (p - 1) * 2 ^ d ≤ m = le-div-iff-mul-le (pow-pos d) .0 lo in
     let b : m < 2 ^ p * 2 ^ d = div-lt-iff-lt-mul (pow-pos d) .0 hi in
+    let moved : (q : ℕ) → 2 ^ (q + j) * 2 ^ d ≡ 2 ^ q * 2 ^ d * 2 ^ j = λ q. ap (λ (x : ℕ). x * 2 ^ d) (pow-add 2 q j) ∙ mul-right-comm (2 ^ q) (2 ^ j) (2 ^ d) in
     size-full p j (m * 2 ^ j / 2 ^ d) P
-    (le-div-iff-mul-le (pow-pos d) .1 (le-trans (le-of-eq (ap (λ (x : ℕ). x * 2 ^ d) (pow-add 2 (p - 1) j) ∙ mul-right-comm (2 ^ (p - 1)) (2 ^ j) (2 ^ d))) (mul-le-mul-right (2 ^ j) a)))
-    (div-lt-iff-lt-mul (pow-pos d) .1 (lt-of-lt-of-le (mul-lt-mul-of-pos-right b (pow-pos j)) (le-of-eq (mul-right-comm (2 ^ p) (2 ^ d) (2 ^ j) ∙ ap (λ (x : ℕ). x * 2 ^ d) (sym (pow-add 2 p j))))))
+    (le-div-iff-mul-le (pow-pos d) .1 (le-trans (le-of-eq (moved (p - 1))) (mul-le-mul-right (2 ^ j) a)))
+    (div-lt-iff-lt-mul (pow-pos d) .1 (lt-of-lt-of-le (mul-lt-mul-of-pos-right b (pow-pos j)) (le-of-eq (sym (moved p)))))
 
 -- ---- `pack`, of any m, d and j that stand for the fraction
 pub pack-as : (p n den m d j : ℕ) → 0 < p → 0 < den → n * 2 ^ d ≡ m * 2 ^ j * den → Kept p m d j → pack p n den ≡ j * 2 ^ (p - 1) + closest m (2 ^ d)
 unfolding pack
 pack-as p n den m d j P D same kept =
     let z : size (n / den) - p ≡ j = ap (λ (x : ℕ). size x - p) (div-same n den (m * 2 ^ j) (2 ^ d) D (pow-pos d) same) ∙ kept-size p m d j P kept in
+    let e : n * 2 ^ d ≡ m * (den * 2 ^ j) = same ∙ mul-assoc m (2 ^ j) den ∙ ap (λ (x : ℕ). m * x) (mul-comm (2 ^ j) den) in
     ap (λ (x : ℕ). x * 2 ^ (p - 1) + closest n (den * 2 ^ x)) z
-    ∙ ap (λ (x : ℕ). j * 2 ^ (p - 1) + x) (closest-same n (den * 2 ^ j) m (2 ^ d) (mul-pos D (pow-pos j)) (pow-pos d) (same ∙ mul-assoc m (2 ^ j) den ∙ ap (λ (x : ℕ). m * x) (mul-comm (2 ^ j) den)))
+    ∙ ap (λ (x : ℕ). j * 2 ^ (p - 1) + x) (closest-same n (den * 2 ^ j) m (2 ^ d) (mul-pos D (pow-pos j)) (pow-pos d) e)
 
 -- equal fractions pack alike, and round alike
 same-drop : (p a b c d : ℕ) → 0 < b → 0 < d → a * d ≡ c * b → size (a / b) - p ≡ size (c / d) - p
@@ -70,13 +72,13 @@ kept-small p n den =
     let u = den * 2 ^ (size (n / den) - p) in
     le-trans (nearest-le (n / u) (compare (n % u * 2) u)) (subst (λ (x : ℕ). x < 2 ^ p) (div-div-eq-div-mul n den (2 ^ (size (n / den) - p))) (kept-lt p (n / den)))
 
-pub kept-whole : (p n den : ℕ) → 0 < p → Whole p (size (n / den) - p) (closest n (den * 2 ^ (size (n / den) - p)))
-kept-whole p n den P = go (eq-zero-or-pos (size (n / den) - p))
+pub kept-all : (p n den : ℕ) → 0 < p → AllDigits p (size (n / den) - p) (closest n (den * 2 ^ (size (n / den) - p)))
+kept-all p n den P = go (eq-zero-or-pos (size (n / den) - p))
   where
     many : (z : ℕ) → 0 < z - p → p - 1 + (z - p) < z
     many z h = omega arith
 
-    go : (size (n / den) - p ≡ 0) ⊎ (0 < size (n / den) - p) → Whole p (size (n / den) - p) (closest n (den * 2 ^ (size (n / den) - p)))
+    go : (size (n / den) - p ≡ 0) ⊎ (0 < size (n / den) - p) → AllDigits p (size (n / den) - p) (closest n (den * 2 ^ (size (n / den) - p)))
     go (inl z) = inl z
     go (inr g) =
         let j = size (n / den) - p in
@@ -97,9 +99,9 @@ module _ (k : Kind) (sized : Sized k) (s : Bool) (num den : ℕ) where
   unfolding n j
   q = closest n (den * 2 ^ j)
 
-  w : Whole (k .digits) j q
+  w : AllDigits (k .digits) j q
   unfolding n j q
-  w = kept-whole (k .digits) (num * 2 ^ least k) den (lt-of-lt-of-le (pow-pos 0) (le-trans (le-suc 1) (sized .two)))
+  w = kept-all (k .digits) (num * 2 ^ least k) den (lt-of-lt-of-le (pow-pos 0) (le-trans (le-suc 1) (sized .two)))
 
   small : q ≤ 2 ^ k .digits
   unfolding n j q
@@ -112,9 +114,6 @@ module _ (k : Kind) (sized : Sized k) (s : Bool) (num den : ℕ) where
   pack-is : pack (k .digits) (num * 2 ^ least k) den ≡ j * hidden k + q
   unfolding pack n j q
   pack-is = refl
-
-  pub round-finite : finite (roundTo k s num den) ≡ ltb (pack (k .digits) (num * 2 ^ least k) den) (full k * hidden k)
-  round-finite = ap finite is ∙ units-finite k sized s q j w small ∙ ap (λ (x : ℕ). ltb x (full k * hidden k)) (sym pack-is)
 
   pub round-bits : toBits k (roundTo k s num den) ≡ cond s (signed k) 0 + min (pack (k .digits) (num * 2 ^ least k) den) (full k * hidden k)
   round-bits = ap (toBits k) is ∙ units-bits k sized s q j w small ∙ ap (λ (x : ℕ). cond s (signed k) 0 + min x (full k * hidden k)) (sym pack-is)

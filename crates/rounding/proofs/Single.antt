@@ -1,8 +1,6 @@
 -- Each public contract permits one outcome for each call. Assumes nothing.
 use mathlib.Core.Path.{sym, _∙_}
 use Rattle.integer.proofs.Single.{OneResult}
-use Rattle.rounding.proofs.places.round_whole.Kinds as round-whole-kinds
-use Rattle.rounding.proofs.places.round_whole.Reads as round-whole-reads
 use Rattle.rounding.proofs.patterns.f32_bits.Kinds as f32-bits-kinds
 use Rattle.rounding.proofs.patterns.f32_bits.Reads as f32-bits-reads
 use Rattle.rounding.proofs.patterns.f64_bits.Kinds as f64-bits-kinds
@@ -31,9 +29,6 @@ use Rattle.rounding.proofs.narrow.i64_to_f32.Kinds as i64-to-f32-kinds
 use Rattle.rounding.proofs.narrow.i64_to_f32.Reads as i64-to-f32-reads
 use Rattle.rounding.proofs.narrow.i64_to_f64.Kinds as i64-to-f64-kinds
 use Rattle.rounding.proofs.narrow.i64_to_f64.Reads as i64-to-f64-reads
-
-pub round-whole-one : OneResult 0 round-whole-kinds.ps round-whole-kinds.r round-whole-reads.Post
-round-whole-one κs a x y s t p q = p ∙ sym q
 
 pub f32-bits-one : OneResult 0 f32-bits-kinds.ps f32-bits-kinds.r f32-bits-reads.Post
 f32-bits-one κs a x y s t p q = p ∙ sym q

@@ -12,9 +12,9 @@ use lib.Ieee.{inf, fin, up, down, minus, size, odd}
 use lib.Ieee.Digits.{Equals, odd-val}
 use lib.Ieee.Fits.{down-pos}
 use borrow.Author.Tests.{lt-ltb, le-ltb, ltb-true, ltb-false}
-use Rattle.rounding.specs.Kind.{Kind, half, single, double, least, unitsIn}
+use Rattle.rounding.specs.Kind.{Kind, half, single, double, least, limit, unitsIn}
 use Rattle.rounding.specs.Bits.{hidden, full, signed, toBits, finite}
-use Rattle.rounding.proofs.Digits.{twice, Whole, field, packed}
+use Rattle.rounding.proofs.Digits.{twice, AllDigits, field, packed}
 
 -- ---- the bits of q * 2 ^ j units
 pub bits-of : (k : Kind) (s : Bool) (m : ℕ) (e : _) (a : ℕ) → Equals (fin s m e) a (2 ^ least k) → toBits k (fin s m e) ≡ cond s (signed k) 0 + field (k .digits) a
@@ -36,14 +36,11 @@ unfolding odd
 odd-finite d s zero j l = refl
 odd-finite d s (suc q) j l = refl
 
-abbrev over : Kind → ℕ
-over k = 2 ^ (least k + suc (k .reach))
-
-pub units-in : (k : Kind) (s : Bool) (q j : ℕ) → ltb (q * 2 ^ j) (over k) ≡ true → unitsIn k s q j ≡ odd (suc (k .digits)) s q j (least k)
+pub units-in : (k : Kind) (s : Bool) (q j : ℕ) → ltb (q * 2 ^ j) (limit k) ≡ true → unitsIn k s q j ≡ odd (suc (k .digits)) s q j (least k)
 unfolding unitsIn
 units-in k s q j e = ap (λ (b : Bool). cond b (odd (suc (k .digits)) s q j (least k)) (inf s)) e
 
-pub units-out : (k : Kind) (s : Bool) (q j : ℕ) → ltb (q * 2 ^ j) (over k) ≡ false → unitsIn k s q j ≡ inf s
+pub units-out : (k : Kind) (s : Bool) (q j : ℕ) → ltb (q * 2 ^ j) (limit k) ≡ false → unitsIn k s q j ≡ inf s
 unfolding unitsIn
 units-out k s q j e = ap (λ (b : Bool). cond b (odd (suc (k .digits)) s q j (least k)) (inf s)) e
 
@@ -60,11 +57,11 @@ place j R = go (ltb (j + 1) (2 * R)) (ltb→lt (j + 1) (2 * R)) (nltb→le (j + 
     go true x y = low-of (omega (arith, x tt))
     go false x y = elim (eq-or-lt-of-le (y tt)) [ inl e ↦ last (sym e) | inr l ↦ past (omega arith) ]
 
-whole-past : (p j q R : ℕ) → 0 < R → 2 * R ≤ j → Whole p j q → 2 ^ (p - 1) ≤ q
-whole-past p j q R r l (inl z) = absurd (omega arith)
-whole-past p j q R r l (inr h) = h
+all-past : (p j q R : ℕ) → 0 < R → 2 * R ≤ j → AllDigits p j q → 2 ^ (p - 1) ≤ q
+all-past p j q R r l (inl z) = absurd (omega arith)
+all-past p j q R r l (inr h) = h
 
-module _ (p R j q : ℕ) (two : 2 ≤ p) (one : 0 < R) (w : Whole p j q) (small : q ≤ 2 ^ p) where
+module _ (p R j q : ℕ) (two : 2 ≤ p) (one : 0 < R) (w : AllDigits p j q) (small : q ≤ 2 ^ p) where
   P : 0 < p
   P = omega arith
 
@@ -89,7 +86,7 @@ module _ (p R j q : ℕ) (two : 2 ≤ p) (one : 0 < R) (w : Whole p j q) (small 
           let s : q < 2 ^ p = omega (arith, last-full e) in
           let x : p + j ≡ R + p - 2 + suc R = omega arith in
           subst (λ (y : ℕ). q * 2 ^ j < 2 ^ y) x (shl-lt p j s)
-      go (past g) = absurd (omega (arith, h1 (2 * R), mul-le-mul-right (2 ^ (p - 1)) g, whole-past p j q R one g w))
+      go (past g) = absurd (omega (arith, h1 (2 * R), mul-le-mul-right (2 ^ (p - 1)) g, all-past p j q R one g w))
 
   out-range : (2 * R + 1) * 2 ^ (p - 1) ≤ j * 2 ^ (p - 1) + q → 2 ^ (R + p - 2 + suc R) ≤ q * 2 ^ j
   out-range l = go (place j R)
@@ -102,7 +99,7 @@ module _ (p R j q : ℕ) (two : 2 ≤ p) (one : 0 < R) (w : Whole p j q) (small 
           subst (λ (y : ℕ). 2 ^ y ≤ q * 2 ^ j) x (le-trans (le-of-eq (pow-add 2 p j)) (mul-le-mul-right (2 ^ j) s))
       go (past g) =
           let x : R + p - 2 + suc R ≤ p - 1 + j = omega arith in
-          le-trans (pow-mono x) (le-trans (le-of-eq (pow-add 2 (p - 1) j)) (mul-le-mul-right (2 ^ j) (whole-past p j q R one g w)))
+          le-trans (pow-mono x) (le-trans (le-of-eq (pow-add 2 (p - 1) j)) (mul-le-mul-right (2 ^ j) (all-past p j q R one g w)))
 
 -- ---- so: the bits, and whether there are any
 pub inf-bits : (k : Kind) (s : Bool) → toBits k (inf s) ≡ cond s (signed k) 0 + full k * hidden k
@@ -113,20 +110,10 @@ pub record Sized (k : Kind) : Type 0 where
   pub two : 2 ≤ k .digits
   pub one : 0 < k .reach
 
-module _ (k : Kind) (sized : Sized k) (s : Bool) (q j : ℕ) (w : Whole (k .digits) j q) (small : q ≤ 2 ^ k .digits) where
-  pub units-finite : finite (unitsIn k s q j) ≡ ltb (j * hidden k + q) (full k * hidden k)
-  units-finite = go (ltb (j * hidden k + q) (full k * hidden k)) refl
-    where
-      go : (b : Bool) → ltb (j * hidden k + q) (full k * hidden k) ≡ b → finite (unitsIn k s q j) ≡ b
-      go true e =
-          ap finite (units-in k s q j (lt-ltb (q * 2 ^ j) (over k) (in-range (k .digits) (k .reach) j q (sized .two) (sized .one) w small (ltb-true (j * hidden k + q) (full k * hidden k) e))))
-          ∙ odd-finite (suc (k .digits)) s q j (least k)
-      go false e =
-          ap finite (units-out k s q j (le-ltb (q * 2 ^ j) (over k) (out-range (k .digits) (k .reach) j q (sized .two) (sized .one) w small (ltb-false (j * hidden k + q) (full k * hidden k) e))))
-
+module _ (k : Kind) (sized : Sized k) (s : Bool) (q j : ℕ) (w : AllDigits (k .digits) j q) (small : q ≤ 2 ^ k .digits) where
   units-low : j * hidden k + q < full k * hidden k → toBits k (unitsIn k s q j) ≡ cond s (signed k) 0 + (j * hidden k + q)
   units-low l =
-      ap (toBits k) (units-in k s q j (lt-ltb (q * 2 ^ j) (over k) (in-range (k .digits) (k .reach) j q (sized .two) (sized .one) w small l)))
+      ap (toBits k) (units-in k s q j (lt-ltb (q * 2 ^ j) (limit k) (in-range (k .digits) (k .reach) j q (sized .two) (sized .one) w small l)))
       ∙ bits-odd k (suc (k .digits)) s q j
       ∙ ap (λ (x : ℕ). cond s (signed k) 0 + x) (packed (k .digits) q j (P (k .digits) (k .reach) j q (sized .two) (sized .one) w small) small w)
 
@@ -143,7 +130,7 @@ module _ (k : Kind) (sized : Sized k) (s : Bool) (q j : ℕ) (w : Whole (k .digi
       go true e = let l = ltb-true (j * hidden k + q) (full k * hidden k) e in units-low l ∙ ap (λ (x : ℕ). cond s (signed k) 0 + x) (plain (j * hidden k + q) (full k * hidden k) l)
       go false e =
           let l = ltb-false (j * hidden k + q) (full k * hidden k) e in
-          ap (toBits k) (units-out k s q j (le-ltb (q * 2 ^ j) (over k) (out-range (k .digits) (k .reach) j q (sized .two) (sized .one) w small l)))
+          ap (toBits k) (units-out k s q j (le-ltb (q * 2 ^ j) (limit k) (out-range (k .digits) (k .reach) j q (sized .two) (sized .one) w small l)))
           ∙ inf-bits k s
           ∙ ap (λ (x : ℕ). cond s (signed k) 0 + x) (capped (j * hidden k + q) (full k * hidden k) l)
 

@@ -18,7 +18,7 @@ use Rattle.rounding.specs.Bits.{hidden, full, signed, ofFields, ofBits}
 use Rattle.rounding.proofs.Same.{ofBits-is}
 use Rattle.rounding.proofs.Fields.{read, fields-mid}
 use Rattle.rounding.proofs.Units.{Sized, half-sized}
-use Rattle.rounding.proofs.Closest.{le-or-lt}
+use Rattle.integer.proofs.Order.{le-or-lt}
 
 -- ---- a power of two moves from the number to the unit
 minus-shift : (a b c : ℕ) → minus (a + c) (b + c) ≡ minus a b

@@ -1,19 +1,17 @@
--- What the bits of a rounded value tell: their width, whether the value is finite, and that no NaN but the kept one is among them. Assumes nothing.
+-- What the bits of a rounded value tell: their width, and that no NaN but the kept one is among them. Assumes nothing.
 use Prim.Native.Nat.{ℕ, suc, _+_, _-_, _*_, _/_, _%_, _^_, _≤_, _<_, min}
 use mathlib.Core.Path.{_≡_, refl, sym, ap, _∙_, subst}
-use mathlib.Core.Bool.{Bool, true, false, not, cond}
+use mathlib.Core.Bool.{Bool, true, false, cond}
 use mathlib.Core.Logic.{_⊎_, inl, inr}
-use native.Mathlib.Nat.{le-of-eq, zero-add, add-mod-left, mod-eq-of-lt, le-add-right, mul-comm, suc-mul}
+use native.Mathlib.Nat.{le-of-eq, zero-add, add-mod-left, mod-eq-of-lt, mul-comm, suc-mul}
 use native.Mathlib.Omega.{arith}
-use lib.Dec.{T, ltb, ltb→lt, nltb→le}
 use lib.Pow.{pow-pos}
 use lib.Ieee.{Float, nan, inf, fin, up, down}
-use borrow.Author.Tests.{lt-ltb, le-ltb}
 use Rattle.rounding.specs.Kind.{Kind, least, roundTo, convert}
-use Rattle.rounding.specs.Bits.{hidden, full, signed, toBits, finite}
+use Rattle.rounding.specs.Bits.{hidden, full, signed, toBits}
 use Rattle.rounding.specs.Pack.{pack}
 use Rattle.rounding.proofs.Units.{Sized}
-use Rattle.rounding.proofs.Pack.{round-finite, round-bits}
+use Rattle.rounding.proofs.Pack.{round-bits}
 
 -- ---- the bits of a rounded value are a number of the format's width
 pub under : (k : Kind) → Sized k → full k * hidden k + hidden k ≡ signed k
@@ -41,53 +39,9 @@ bits-lt k sized (inf s) = two s (full k * hidden k) (hidden k) (signed k) (under
     two false a h t e p = omega arith
 bits-lt k sized (fin s m e) = round-lt k sized s (m * up e) (down e)
 
--- ---- a rounded value is finite exactly where its bits without the sign are below the infinity's
 drop-sign : (s : Bool) (t q : ℕ) → q < t → (cond s t 0 + q) % t ≡ q
 drop-sign true t q h = add-mod-left t q ∙ mod-eq-of-lt h
 drop-sign false t q h = ap (λ (x : ℕ). x % t) (zero-add q) ∙ mod-eq-of-lt h
-
-capped-lt : (p m : ℕ) → ltb p m ≡ ltb (min p m) m
-capped-lt p m = go (ltb p m) (ltb→lt p m) (nltb→le p m) refl
-  where
-    under-cap : (p m : ℕ) → p < m → min p m < m
-    under-cap p m h = omega arith
-
-    at-cap : (p m : ℕ) → m ≤ p → m ≤ min p m
-    at-cap p m h = omega arith
-
-    go : (b : Bool) → (T b → p < m) → (T (not b) → m ≤ p) → ltb p m ≡ b → ltb p m ≡ ltb (min p m) m
-    go true h k e = e ∙ sym (lt-ltb (min p m) m (under-cap p m (h tt)))
-    go false h k e = e ∙ sym (le-ltb (min p m) m (at-cap p m (k tt)))
-
-pub round-finite-bits : (k : Kind) → Sized k → (s : Bool) (a b : ℕ) → finite (roundTo k s a b) ≡ ltb (toBits k (roundTo k s a b) % signed k) (full k * hidden k)
-round-finite-bits k sized s a b =
-    let p = pack (k .digits) (a * 2 ^ least k) b in
-    let w = full k * hidden k in
-    round-finite k sized s a b
-    ∙ capped-lt p w
-    ∙ ap (λ (x : ℕ). ltb x w) (sym (drop-sign s (signed k) (min p w) (at p w (hidden k) (signed k) (under k sized) (pow-pos (k .digits - 1)))))
-    ∙ ap (λ (x : ℕ). ltb (x % signed k) w) (sym (round-bits k sized s a b))
-  where
-    at : (p a h s : ℕ) → a + h ≡ s → 0 < h → min p a < s
-    at p a h s e q = omega arith
-
-pub finite-bits : (k : Kind) → Sized k → (x : Float) → finite (convert k x) ≡ ltb (toBits k (convert k x) % signed k) (full k * hidden k)
-unfolding convert toBits
-finite-bits k sized nan =
-    let e = under k sized in
-    let h = pow-pos (k .digits - 1) in
-    sym (le-ltb ((full k * hidden k + hidden k / 2) % signed k) (full k * hidden k) (subst (λ (y : ℕ). full k * hidden k ≤ y) (sym (mod-eq-of-lt (at (full k * hidden k) (hidden k) (signed k) e h))) (le-add-right (full k * hidden k) (hidden k / 2))))
-  where
-    at : (a h s : ℕ) → a + h ≡ s → 0 < h → a + h / 2 < s
-    at a h s e p = omega arith
-finite-bits k sized (inf s) =
-    let e = under k sized in
-    let h = pow-pos (k .digits - 1) in
-    sym (le-ltb ((cond s (signed k) 0 + full k * hidden k) % signed k) (full k * hidden k) (le-of-eq (sym (drop-sign s (signed k) (full k * hidden k) (at (full k * hidden k) (hidden k) (signed k) e h)))))
-  where
-    at : (a h s : ℕ) → a + h ≡ s → 0 < h → a < s
-    at a h s e p = omega arith
-finite-bits k sized (fin s m e) = round-finite-bits k sized s (m * up e) (down e)
 
 -- ---- no other NaN pattern than the one kept: the bits of a rounded value are that one, or are without the sign at most the infinity's
 pub kept-pattern : (k : Kind) → Sized k → (x : Float) → (toBits k (convert k x) ≡ full k * hidden k + hidden k / 2) ⊎ (toBits k (convert k x) % signed k ≤ full k * hidden k)

@@ -29,10 +29,14 @@ double = kind 53 1023
 abbrev pub least : Kind → ℕ
 least k = k .reach + k .digits - 2
 
--- q * 2 ^ j of the smallest values; from 2 ^ (reach + 1) on an infinity
+-- the first number of smallest values that is past every finite value: 2 ^ (reach + 1)
+abbrev pub limit : Kind → ℕ
+limit k = 2 ^ (least k + suc (k .reach))
+
+-- q * 2 ^ j of the smallest values; from the limit on an infinity
 unfoldable pub unitsIn : Kind → Bool → ℕ → ℕ → Float
 unfolding odd
-unitsIn k s q j = cond (ltb (q * 2 ^ j) (2 ^ (least k + suc (k .reach)))) (odd (suc (k .digits)) s q j (least k)) (inf s)
+unitsIn k s q j = cond (ltb (q * 2 ^ j) (limit k)) (odd (suc (k .digits)) s q j (least k)) (inf s)
 
 -- num / den rounded once, to the nearest value, ties to the even one, subnormals kept: in smallest values the fraction is n / den, of whose whole part
 -- the j lowest digits are more than a significand has

@@ -22,5 +22,4 @@ pub use patterns::f64_of_bits;
 pub use patterns::finite_f32;
 pub use patterns::finite_f64;
 pub use patterns::finite_half;
-pub use places::round_whole;
 pub use widen::half_to_f32;

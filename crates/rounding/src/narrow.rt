@@ -84,11 +84,18 @@ fn whole_bits(neg: bool, n: u64, digits: u64, reach: u64) -> u64
     signed_bits(neg, packed(n, reach + digits - 2, 0, digits), digits, reach)
 }
 
-// The bits of x rounded once to F16.
-pub fn f64_to_half(x: f64) -> u16
-    ensures once { λ r. ⌜ r ≡ toBits half (convert half x) ⌝ }
+// The bits of x rounded once to F16: what F64 and F32 share.
+fn half_bits(x: f64) -> u16
+    ensures { λ r. ⌜ r ≡ toBits half (convert half x) ⌝ }
 {
     narrow_bits(patterns::f64_bits(x), 11, 15) as u16
+}
+
+// The bits of x rounded once to F16.
+pub fn f64_to_half(x: f64) -> u16
+    ensures { λ r. ⌜ r ≡ toBits half (convert half x) ⌝ }
+{
+    half_bits(x)
 }
 
 // x rounded once to F32.
@@ -121,7 +128,7 @@ pub fn f32_to_half(x: f32) -> u16
     if (0x3880_0000 <= size) & (size < 0x4780_0000) {
         return leading_bits(b);
     }
-    f64_to_half(std::num::f32_to_f64_with_nan(x))
+    half_bits(std::num::f32_to_f64_with_nan(x))
 }
 
 // The bits of n rounded once to F16.

@@ -4,40 +4,39 @@ use mathlib.Core.Path.{_≡_, refl, sym, ap, subst, _∙_}
 use mathlib.Core.Bool.{Bool, true, false, not, _&&_, and-eq-true-iff}
 use mathlib.Core.Logic.{inl, inr}
 use native.Mathlib.Omega.{arith}
-use lib.Dec.{eqb, ltb}
+use lib.Dec.{T, eqb, ltb}
 use lib.IntN.{ℤ, _+ℤ_, _*ℤ_}
 use lib.Ieee as Ieee
-use lib.Ieee.{Float, binary32, binary64}
+use lib.Ieee.{Float, Format, binary32, binary64, fits}
 use lib.Ieee.Fits.{mul-fits}
 use borrow.Author.Tests.{eqb-true, ltb-true, lt-ltb, le-ltb}
-use mir.Syntax.{Width, w16, w32}
+use mir.Syntax.{Width, w16, w32, w64}
 use mir.Val.{Fits, bits}
 use Rattle.rounding.specs.Kind.{Kind, half, single, double, convert}
 use Rattle.rounding.specs.Arithmetic.{add, mul}
 use Rattle.rounding.specs.Bits.{toBits, ofBits, finite}
-use Rattle.rounding.proofs.Same.{add-is, mul-is}
+use Rattle.rounding.proofs.Same.{of, add-is, mul-is}
 use Rattle.rounding.proofs.Back.{bits-back}
 use Rattle.rounding.proofs.Units.{half-sized}
 use Rattle.rounding.proofs.Width.{bits-lt, kept-pattern}
-use Rattle.scalar.specs.declared.Scalar.{Scalar}
-use Rattle.scalar.specs.declared.Scalar.the-variants.{AbstractFloat, F32, F16}
-use Rattle.scalar.specs.declared.Found.{Found}
-use Rattle.scalar.specs.declared.Found.the-variants.{Value}
-use Rattle.scalar.specs.declared.Refusal.{Refusal}
-use Rattle.scalar.specs.declared.Answer.the-variants.{AddOverflow, MulOverflow}
+use Rattle.value.specs.declared.Scalar.{Scalar}
+use Rattle.value.specs.declared.Scalar.the-variants.{AbstractFloat, F32, F16}
+use Rattle.value.specs.declared.Found.{Found}
+use Rattle.value.specs.declared.Found.the-variants.{Value}
+use Rattle.value.specs.declared.Refusal.{Refusal}
+use Rattle.value.specs.declared.Answer.the-variants.{AddOverflow, MulOverflow}
 use Rattle.scalar.specs.declared.Step.{Step}
 use Rattle.scalar.specs.declared.Step.the-variants as S
-use Rattle.scalar.specs.Answer.{Result, value, refusal, answerOf}
-use Rattle.scalar.specs.Arithmetic.{settled, halfOf, arithmetic, addOf, mulOf}
-use Rattle.scalar.specs.Convert.{typeOf, finiteOf}
-use Rattle.scalar.specs.Pair.{pairOf, bothOf}
-use Rattle.scalar.specs.Pattern.{pick, keptOf, nanPattern}
-use Rattle.scalar.specs.Scalar.{bitsOf, scalarOf}
-use Rattle.scalar.specs.Step.{stageOf, stepped, stepOf, onBits, productAdded}
-use Rattle.scalar.proofs.Arms.{half-arm}
-use Rattle.scalar.proofs.Choice.{picked, passed}
-use Rattle.scalar.proofs.Negated.{half-reads}
-use Rattle.scalar.proofs.Sound.{narrow, bits-proper, kept-once}
+use Rattle.value.specs.Answer.{Result, value, refusal, answerOf, stageOf}
+use Rattle.arithmetic.specs.Arithmetic.{settled, halfOf, arithmetic, addOf, mulOf}
+use Rattle.value.specs.Scalar.{typeOf, finiteOf, bitsOf, scalarOf}
+use Rattle.value.specs.Pair.{pairOf, bothOf}
+use Rattle.value.specs.Pattern.{pick, keptOf, nanPattern}
+use Rattle.scalar.specs.Step.{stepped, stepOf, onBits, productAdded}
+use Rattle.arithmetic.proofs.Arms.{half-arm}
+use Rattle.types.proofs.Choice.{picked, passed}
+use Rattle.arithmetic.proofs.Negated.{half-reads}
+use Rattle.value.proofs.Sound.{bits-proper, kept-once}
 
 -- ---- by two steps
 module _ (stage ty sum l r : ℕ) {a : Step} (e : a ≡ stepOf 5 stage ty l r) where
@@ -101,35 +100,39 @@ module _ {X : Type 0} (make : X → Scalar) (by : (Kind → Float → Float → 
       ∙ sym (tested (λ (v : Result). onBits (stepped v) (stepOf 3 stage ty sum)) s (finiteOf (make p)) (answerOf MulOverflow) (value (make p)))
       ∙ ap (λ (a : Step). onBits a (stepOf 3 stage ty sum)) product
 
--- F32: a product is read back because it fits
+-- in F32 and F64 a product is read back because it fits
+module _ (g : Format) (w : Width) (make : Float → Scalar) (stage ty : ℕ) (s : Bool) (typed : (x : Float) → typeOf (make x) ≡ ty)
+    (works : (z : ℤ → ℤ → ℤ) (f : Kind → Float → Float → Float) (why : Result) (x y : Float)
+    → checked s why (make (f (of g) x y)) ≡ arithmetic z f why (stageOf stage) (pairOf (make x) (make y)))
+    (reads : (b : ℕ) → Fits w b → Value (make (ofBits (of g) b)) ≡ scalarOf ty b)
+    (back : (x : Float) → T (fits g x) → Value (make x) ≡ scalarOf ty (bitsOf (make x))) where
+  float-kernel : (sum l r : ℕ) → Fits w sum → Fits w l → Fits w r → {o : Step} {f h : Bool} {t x y : Float} {b : ℕ}
+      → x ≡ ofBits (of g) l → y ≡ ofBits (of g) r → t ≡ ofBits (of g) sum
+      → f ≡ finiteOf (make (Ieee.mul g x y)) → h ≡ finiteOf (make (Ieee.add g t (Ieee.mul g x y)))
+      → b ≡ bitsOf (make (Ieee.add g t (Ieee.mul g x y))) → o ≡ outcomeOf s f h ty b → o ≡ productAdded stage ty sum l r
+  float-kernel sum l r u v d {o} {f} {h} {t} {x} {y} lx ry st =
+      let found : Float → Found = λ x. Value (make x) in
+      by-kernel make (λ f. f (of g)) stage ty s typed works sum l r (ap found lx ∙ reads l v) (ap found ry ∙ reads r d) (ap found st ∙ reads sum u)
+      (back (Ieee.mul g x y) (mul-fits g x y)) (mul-is g x y) (add-is g t (Ieee.mul g x y))
+
 pub f32-kernel : (stage sum l r : ℕ) → Fits w32 sum → Fits w32 l → Fits w32 r → {o : Step} {f g : Bool} {w x y : Float} {b : ℕ}
     → x ≡ ofBits single l → y ≡ ofBits single r → w ≡ ofBits single sum
     → f ≡ finite (Ieee.mul binary32 x y) → g ≡ finite (Ieee.add binary32 w (Ieee.mul binary32 x y))
     → b ≡ toBits single (Ieee.add binary32 w (Ieee.mul binary32 x y)) → o ≡ outcomeOf (ltb stage 2) f g 5 b → o ≡ productAdded stage 5 sum l r
-f32-kernel stage sum l r u v d {o} {f} {g} {w} {x} {y} lx ry sw =
-    let p = Ieee.mul binary32 x y in
-    let t = mul-fits binary32 x y in
-    by-kernel F32 (λ f. f single) stage 5 (ltb stage 2) (λ x. refl) (λ z f why x y. asks stage why (F32 (f single x y))) sum l r
-    (reads l v lx) (reads r d ry) (reads sum u sw) (ap found (sym (bits-back binary32 p t)) ∙ picked _ _ (bits-proper (F32 p) t)) (mul-is binary32 x y) (add-is binary32 w p)
-  where
-    found : Float → Found
-    found x = Value (F32 x)
+f32-kernel stage =
+    float-kernel binary32 w32 F32 stage 5 (ltb stage 2) (λ x. refl) (λ z f why x y. asks stage why (F32 (f single x y)))
+    (λ b f. picked _ _ (lt-ltb b 4294967296 (f .fits)))
+    (λ x t. ap (λ (x : Float). Value (F32 x)) (sym (bits-back binary32 x t)) ∙ picked _ _ (bits-proper (F32 x) t))
 
-    reads : (b : ℕ) → Fits w32 b → {x : Float} → x ≡ ofBits single b → found x ≡ scalarOf 5 b
-    reads b f e = ap found e ∙ picked _ _ (narrow b (f .fits))
-
--- F64, the same: every pattern is proper, and every stage asks for finite results
-pub f64-kernel : (stage sum l r : ℕ) {o : Step} {f g : Bool} {w x y : Float} {b : ℕ}
+-- in F64 every stage asks for finite results
+pub f64-kernel : (stage sum l r : ℕ) → Fits w64 sum → Fits w64 l → Fits w64 r → {o : Step} {f g : Bool} {w x y : Float} {b : ℕ}
     → x ≡ ofBits double l → y ≡ ofBits double r → w ≡ ofBits double sum
     → f ≡ finite (Ieee.mul binary64 x y) → g ≡ finite (Ieee.add binary64 w (Ieee.mul binary64 x y))
     → b ≡ toBits double (Ieee.add binary64 w (Ieee.mul binary64 x y)) → o ≡ outcomeOf true f g 2 b → o ≡ productAdded stage 2 sum l r
-f64-kernel stage sum l r {o} {f} {g} {w} {x} {y} lx ry sw =
-    let p = Ieee.mul binary64 x y in
-    by-kernel AbstractFloat (λ f. f double) stage 2 true (λ x. refl) (λ z f why x y. refl) sum l r
-    (ap found lx) (ap found ry) (ap found sw) (ap found (sym (bits-back binary64 p (mul-fits binary64 x y)))) (mul-is binary64 x y) (add-is binary64 w p)
-  where
-    found : Float → Found
-    found x = Value (AbstractFloat x)
+f64-kernel stage =
+    float-kernel binary64 w64 AbstractFloat stage 2 true (λ x. refl) (λ z f why x y. refl)
+    (λ b f. picked _ _ (lt-ltb b 18446744073709551616 (f .fits)))
+    (λ x t. ap (λ (x : Float). Value (AbstractFloat x)) (sym (bits-back binary64 x t)) ∙ picked _ _ (bits-proper (AbstractFloat x) t))
 
 -- ---- in F16, by bits
 -- any NaN's pattern is read as the kept one

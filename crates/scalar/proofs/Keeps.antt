@@ -15,36 +15,35 @@ use mir.Val.{Fits, SFits, ofZ}
 use mir.ValLaws.{toZ-fits, sfits-le, fits-div, fits-mod, fits-not, fits-and, fits-or, fits-xor}
 use Rattle.integer.specs.Range.{pick, inSigned, inUnsigned, wholeOf}
 use Rattle.integer.specs.Wrap.{wrapS, wrapU, notZ}
-use Rattle.integer.specs.Quotient.{noQuotient}
-use Rattle.integer.specs.Shift.{shlOver, shlOverU}
+use Rattle.quotient.specs.Quotient.{noQuotient}
+use Rattle.shift.specs.Shift.{shlOver, shlOverU}
 use Rattle.integer.specs.declared.Whole.the-variants as W
 use Rattle.integer.proofs.Wrap.{wrapU-fits}
-use Rattle.integer.proofs.Division.{quot-fits}
+use Rattle.quotient.proofs.Division.{quot-fits}
 use Rattle.rounding.specs.Kind.{Kind, half, single, double, convert}
 use Rattle.rounding.specs.Arithmetic.{add, sub, mul, div, rem}
 use Rattle.rounding.specs.Bits.{toBits, ofBits}
 use Rattle.rounding.proofs.Same.{of, add-is, sub-is, mul-is, div-is, rem-is}
 use Rattle.rounding.proofs.Units.{half-sized}
 use Rattle.rounding.proofs.Width.{bits-lt}
-use Rattle.scalar.specs.declared.Scalar.{Scalar}
-use Rattle.scalar.specs.declared.Scalar.the-variants.{Bool as bool, AbstractInt, AbstractFloat, I32, U32, F32, F16}
-use Rattle.scalar.specs.declared.ShaderStage.{ShaderStage}
-use Rattle.scalar.specs.declared.Refusal.{Refusal}
-use Rattle.scalar.specs.declared.Answer.the-variants.{AddOverflow, SubOverflow, MulOverflow, DivByZero, RemZeroDiv}
-use Rattle.scalar.specs.declared.Found.{Found}
-use Rattle.scalar.specs.declared.Found.the-variants.{Value, Nothing}
-use Rattle.scalar.specs.declared.Pair.{Pair}
-use Rattle.scalar.specs.declared.Pair.the-variants as P
-use Rattle.scalar.specs.Answer.{Result, value, refused, refusal, answerOf, strict}
-use Rattle.scalar.specs.Convert.{typeOf, finiteOf}
-use Rattle.scalar.specs.Arithmetic.{inExec, finiteOr, settled, wholeOr, halfOf, arithmetic, addOf, subOf, mulOf, noDiv, divOf, noRem, remOf}
-use Rattle.scalar.specs.Logical.{logical}
-use Rattle.scalar.specs.Comparison.{equality, order, numbersOf}
-use Rattle.scalar.specs.Unary.{notOf, negOf, bitNotOf}
-use Rattle.scalar.specs.Bits.{signedBits, bitwise, bitOrOf, bitAndOf, bitXorOf}
-use Rattle.scalar.specs.Shift.{shlExact, shlWrapped, shrExact, shrReduced, shlBy, shrBy, byCount, shlOf, shrOf}
-use Rattle.scalar.proofs.Sound.{Sound, Couple, bits-fit}
-use Rattle.scalar.proofs.Negated.{sign-set, sign-cleared, half-nan}
+use Rattle.value.specs.declared.Scalar.{Scalar}
+use Rattle.value.specs.declared.Scalar.the-variants.{Bool as bool, AbstractInt, AbstractFloat, I32, U32, F32, F16}
+use Rattle.value.specs.declared.ShaderStage.{ShaderStage}
+use Rattle.value.specs.declared.Refusal.{Refusal}
+use Rattle.value.specs.declared.Answer.the-variants.{AddOverflow, SubOverflow, MulOverflow, DivByZero, RemZeroDiv}
+use Rattle.value.specs.declared.Found.{Found}
+use Rattle.value.specs.declared.Found.the-variants.{Value, Nothing}
+use Rattle.value.specs.declared.Pair.{Pair}
+use Rattle.value.specs.declared.Pair.the-variants as P
+use Rattle.value.specs.Answer.{Result, value, refused, refusal, answerOf, strict}
+use Rattle.value.specs.Scalar.{typeOf, finiteOf}
+use Rattle.arithmetic.specs.Arithmetic.{inExec, finiteOr, settled, wholeOr, halfOf, arithmetic, addOf, subOf, mulOf, noDiv, divOf, noRem, remOf, negOf}
+use Rattle.relation.specs.Logical.{logical, notOf}
+use Rattle.relation.specs.Comparison.{equality, order, numbersOf}
+use Rattle.bitwise.specs.Bits.{bitNotOf, signedBits, bitwise, bitOrOf, bitAndOf, bitXorOf}
+use Rattle.bitwise.specs.Shift.{shlExact, shlWrapped, shrExact, shrReduced, shlBy, shrBy, byCount, shlOf, shrOf}
+use Rattle.value.proofs.Sound.{Sound, Couple, bits-fit}
+use Rattle.arithmetic.proofs.Negated.{sign-set, sign-cleared, half-nan}
 
 -- a refusal: its number 1, 2 or 4 to 10, its detail 0 but for the shifts'
 pub record Refuses (r : Refusal) : Type 0 where
@@ -240,7 +239,8 @@ module _ (z : ℤ → ℤ → Bool) (f : Float → Float → Bool) where
   order-kept P.None = no-binary
 
 -- ---- bits
-module _ (bools : Bool → Bool → Result) (op : ℕ → ℕ → ℕ) (k : (ty : ℕ) (x y : Bool) → ty ≡ 0 → Kept ty (bools x y)) (fit : (w : Width) (a b : ℕ) → Fits w a → Fits w b → Fits w (op a b)) where
+module _ (bools : Bool → Bool → Result) (op : ℕ → ℕ → ℕ) (k : (ty : ℕ) (x y : Bool) → ty ≡ 0 → Kept ty (bools x y))
+    (fit : (w : Width) (a b : ℕ) → Fits w a → Fits w b → Fits w (op a b)) where
   on-bits : (w : Width) (x y : ℤ) → SFits w x → SFits w y → SFits w (signedBits w op x y)
   on-bits w x y f g = toZ-fits w (op (ofZ w x) (ofZ w y)) (fit w (ofZ w x) (ofZ w y) (bits-fit w x f) (bits-fit w y g))
 
@@ -255,13 +255,13 @@ module _ (bools : Bool → Bool → Result) (op : ℕ → ℕ → ℕ) (k : (ty 
   bitwise-kept ty P.None h = no-binary
 
 pub bitor-kept : (ty : ℕ) (p : Pair) → Couple ty p → Kept ty (bitOrOf p)
-bitor-kept = bitwise-kept Rattle.scalar.specs.Bits.either bitOr (λ ty x y e. (sym e, tt)) (λ w a b f g. fits-or a b f g)
+bitor-kept = bitwise-kept Rattle.bitwise.specs.Bits.either bitOr (λ ty x y e. (sym e, tt)) (λ w a b f g. fits-or a b f g)
 
 pub bitand-kept : (ty : ℕ) (p : Pair) → Couple ty p → Kept ty (bitAndOf p)
-bitand-kept = bitwise-kept Rattle.scalar.specs.Bits.both bitAnd (λ ty x y e. (sym e, tt)) (λ w a b f g. fits-and a b f)
+bitand-kept = bitwise-kept Rattle.bitwise.specs.Bits.both bitAnd (λ ty x y e. (sym e, tt)) (λ w a b f g. fits-and a b f)
 
 pub bitxor-kept : (ty : ℕ) (p : Pair) → Couple ty p → Kept ty (bitXorOf p)
-bitxor-kept = bitwise-kept Rattle.scalar.specs.Bits.neither bitXor (λ ty x y e. no-binary) (λ w a b f g. fits-xor a b f g)
+bitxor-kept = bitwise-kept Rattle.bitwise.specs.Bits.neither bitXor (λ ty x y e. no-binary) (λ w a b f g. fits-xor a b f g)
 
 -- ---- one operand
 module _ (ty : ℕ) where

@@ -1,35 +1,28 @@
 -- Operators by 01's codes on patterns, as the layer above calls them. Assumes nothing.
 use Prim.Native.Nat.{ℕ}
-use mathlib.Core.Bool.{Bool, _&&_, _||_}
 use mathlib.Core.List.{List, [], _∷_}
 use lib.Dec.{eqb, leb}
 use lib.ListN.{getD}
-use Rattle.scalar.specs.declared.Scalar.{Scalar}
-use Rattle.scalar.specs.declared.ShaderStage.{ShaderStage}
-use Rattle.scalar.specs.declared.ShaderStage.the-variants.{Const, Override, Exec}
-use Rattle.scalar.specs.declared.Found.{Found}
-use Rattle.scalar.specs.declared.Found.the-variants as F
-use Rattle.scalar.specs.declared.Pair.{Pair}
+use Rattle.value.specs.declared.Scalar.{Scalar}
+use Rattle.value.specs.declared.ShaderStage.{ShaderStage}
+use Rattle.value.specs.declared.Found.{Found}
+use Rattle.value.specs.declared.Found.the-variants as F
+use Rattle.value.specs.declared.Pair.{Pair}
 use Rattle.scalar.specs.declared.Step.{Step}
 use Rattle.scalar.specs.declared.Step.the-variants as S
 use Rattle.scalar.specs.declared.Conv.{Conv}
 use Rattle.scalar.specs.declared.Conv.the-variants as C
-pub use Rattle.scalar.specs.Answer.{refusal}
-use Rattle.scalar.specs.Answer.{Result, value, refused, unary, binary}
-use Rattle.scalar.specs.Pattern.{pick}
-use Rattle.scalar.specs.Convert.{typeOf, convertTo}
-use Rattle.scalar.specs.Pair.{bothOf}
-use Rattle.scalar.specs.Scalar.{bitsOf, scalarOf}
-use Rattle.scalar.specs.Unary.{notOf, negOf, bitNotOf}
-use Rattle.scalar.specs.Logical.{orOf, andOf}
-use Rattle.scalar.specs.Arithmetic.{addOf, subOf, mulOf, divOf, remOf}
-use Rattle.scalar.specs.Comparison.{eqOf, neOf, ltOf, leOf, gtOf, geOf}
-use Rattle.scalar.specs.Bits.{bitOrOf, bitAndOf, bitXorOf}
-use Rattle.scalar.specs.Shift.{shlOf, shrOf}
-
--- "Stages: 0 Const, 1 Override, 2 Exec"
-abbrev pub stageOf : ℕ → ShaderStage
-stageOf code = getD (Const ∷ Override ∷ []) code Exec
+pub use Rattle.value.specs.Answer.{refusal}
+use Rattle.value.specs.Answer.{Result, value, refused, unary, binary, stageOf}
+use Rattle.value.specs.Pattern.{pick}
+use Rattle.value.specs.Scalar.{typeOf, bitsOf, scalarOf}
+use Rattle.conversion.specs.Convert.{convertTo}
+use Rattle.value.specs.Pair.{bothOf}
+use Rattle.relation.specs.Logical.{notOf, orOf, andOf}
+use Rattle.arithmetic.specs.Arithmetic.{negOf, addOf, subOf, mulOf, divOf, remOf}
+use Rattle.bitwise.specs.Bits.{bitNotOf, bitOrOf, bitAndOf, bitXorOf}
+use Rattle.relation.specs.Comparison.{eqOf, neOf, ltOf, leOf, gtOf, geOf}
+use Rattle.bitwise.specs.Shift.{shlOf, shrOf}
 
 -- a result as a type and bits, or a refusal
 abbrev pub stepped : Result → Step
@@ -91,19 +84,8 @@ onFound F.Nothing f = C.Nothing
 unfoldable pub convOf : ℕ → ℕ → ℕ → Conv
 convOf from to b = onFound (scalarOf from b) (λ s. converted (convertTo to s))
 
--- the type's right to a binary operator, after conversion
-abbrev pub rightOf : ℕ → ℕ → Bool
-rightOf op ty =
-    (leb op 2 && eqb ty 0)
-    || (leb 3 op && leb op 7 && leb 1 ty)
-    || (leb 8 op && leb op 9)
-    || (leb 10 op && leb op 13 && leb 1 ty)
-    || (leb 14 op && leb op 15 && (leb ty 1 || eqb ty 3 || eqb ty 4))
-    || (leb 16 op && (eqb ty 1 || eqb ty 3 || eqb ty 4))
-
--- the type's right to a unary operator
-abbrev pub unaryRightOf : ℕ → ℕ → Bool
-unaryRightOf op ty =
-    (eqb op 1 && eqb ty 0)
-    || (eqb op 2 && leb 1 ty && (leb ty 3 || leb 5 ty))
-    || (eqb op 3 && (eqb ty 1 || eqb ty 3 || eqb ty 4))
+-- ---- for the contracts of private functions
+-- the number of a refusal; 0 for a value
+abbrev pub numberOf : Result → ℕ
+numberOf (value s) = 0
+numberOf (refused r) = r .number

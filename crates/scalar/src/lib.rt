@@ -1,85 +1,21 @@
-// One value of seven types: its pattern, its conversion to a common type, and every operator on scalars.
-// What the layer above calls stands here, by type codes and patterns; the operators on `Scalar` stand in the modules.
-mod arithmetic;
-mod bits;
-pub mod common;
-mod comparison;
-pub mod convert;
-mod logical;
-pub mod pattern;
+// Every operator by its code, on patterns: what the layer above calls.
 mod products;
-mod shifts;
-mod unary;
 
+use bitwise::bits;
+use bitwise::shifts;
+use conversion::convert;
+use relation::comparison;
+use relation::logical;
+use value::Answer;
+use value::Found;
+use value::Pair;
+use value::Refusal;
+use value::ShaderStage;
+use value::pattern;
+use value::stage_of;
 ghost use mathlib.Core.Path.{_≡_};
-ghost use Rattle.scalar.specs.Answer.{answerOf, refusal, strict};
-ghost use Rattle.scalar.specs.Convert.{finiteOf};
-ghost use Rattle.scalar.specs.Pattern.{keptOf, mostOf, properOf};
-ghost use Rattle.scalar.specs.Step.{binaryOf, convOf, converted, productAdded, rightOf, shiftOf, stageOf, stepOf, stepped, unaryOf, unaryRightOf, unaryStepOf};
-
-// A value with its type; an F16 is its bits.
-pub enum Scalar {
-    Bool(bool),
-    AbstractInt(i64),
-    AbstractFloat(f64),
-    I32(i32),
-    U32(u32),
-    F32(f32),
-    F16(u16),
-}
-
-// When an expression is worked out.
-pub enum ShaderStage {
-    Const,
-    Override,
-    Exec,
-}
-
-// What an operator answers: a value, or why it has none.
-pub enum Answer {
-    Value(Scalar),
-    Unary,
-    Binary,
-    AddOverflow,
-    SubOverflow,
-    MulOverflow,
-    DivByZero,
-    RemZeroDiv,
-    ShlOverflow(u32),
-    ShrOverflow(u32),
-}
-
-// A scalar, where there is one.
-pub enum Found {
-    Value(Scalar),
-    Nothing,
-}
-
-// Two operands of one type, or that they have no common type.
-pub enum Pair {
-    Bool(bool, bool),
-    AbstractInt(i64, i64),
-    AbstractFloat(f64, f64),
-    I32(i32, i32),
-    U32(u32, u32),
-    F32(f32, f32),
-    F16(u16, u16),
-    None,
-}
-
-// Two operands of one type as the numbers that they are.
-pub enum Numbers {
-    Truths(bool, bool),
-    Wholes(i64, i64),
-    Reals(f64, f64),
-    None,
-}
-
-// A refusal: its number and its detail.
-pub struct Refusal {
-    pub number: u8,
-    pub detail: u32,
-}
+ghost use Rattle.value.specs.Answer.{answerOf, refusal, unary};
+ghost use Rattle.scalar.specs.Step.{binaryOf, convOf, numberOf, onScalar, productAdded, shiftOf, stepOf, stepped, unaryOf, unaryStepOf};
 
 // One operation: the result's type and bits, or a refusal.
 pub enum Step {
@@ -93,116 +29,6 @@ pub enum Conv {
     Nothing,
 }
 
-// Const and Override refuse what Exec lets pass.
-fn strict(stage: ShaderStage) -> bool
-    ensures { λ r. ⌜ r ≡ strict stage ⌝ }
-{
-    match stage {
-        ShaderStage::Const => true,
-        ShaderStage::Override => true,
-        ShaderStage::Exec => false,
-    }
-}
-
-// Whether a scalar is no infinity and no NaN.
-fn is_finite(s: Scalar) -> bool
-    ensures { λ r. ⌜ r ≡ finiteOf s ⌝ }
-{
-    match s {
-        Scalar::Bool(_) => true,
-        Scalar::AbstractInt(_) => true,
-        Scalar::AbstractFloat(x) => rounding::finite_f64(x),
-        Scalar::I32(_) => true,
-        Scalar::U32(_) => true,
-        Scalar::F32(x) => rounding::finite_f32(x),
-        Scalar::F16(b) => rounding::finite_half(b),
-    }
-}
-
-// The largest pattern of a type.
-fn most(ty: u8) -> u64
-    ensures { λ r. ⌜ r ≡ mostOf ty ⌝ }
-{
-    match ty {
-        0 => 1,
-        1 => 0xffff_ffff_ffff_ffff,
-        2 => 0xffff_ffff_ffff_ffff,
-        3 => 0xffff_ffff,
-        4 => 0xffff_ffff,
-        5 => 0xffff_ffff,
-        _ => 0xffff,
-    }
-}
-
-// Whether a pattern is one of its type's.
-pub fn proper(ty: u8, bits: u64) -> bool
-    ensures { λ r. ⌜ r ≡ properOf ty bits ⌝ }
-{
-    (ty <= 6) & (bits <= most(ty))
-}
-
-// The pattern as it is kept: every NaN of a type as one.
-pub fn kept(ty: u8, bits: u64) -> u64
-    ensures { λ r. ⌜ r ≡ keptOf ty bits ⌝ }
-{
-    match ty {
-        2 => if 0x7ff0_0000_0000_0000 < bits % 0x8000_0000_0000_0000 {
-            0x7ff8_0000_0000_0000
-        } else {
-            bits
-        },
-        5 => if 0x7f80_0000 < bits % 0x8000_0000 {
-            0x7fc0_0000
-        } else {
-            bits
-        },
-        6 => if 0x7c00 < bits % 0x8000 { 0x7e00 } else { bits },
-        _ => bits,
-    }
-}
-
-// Whether a type has the right to a binary operator.
-pub fn right(op: u8, ty: u8) -> bool
-    ensures { λ a. ⌜ a ≡ rightOf op ty ⌝ }
-{
-    if op <= 2 {
-        return ty == 0;
-    }
-    if op <= 7 {
-        return 1 <= ty;
-    }
-    if op <= 9 {
-        return true;
-    }
-    if op <= 13 {
-        return 1 <= ty;
-    }
-    if op <= 15 {
-        return (ty <= 1) | (ty == 3) | (ty == 4);
-    }
-    (ty == 1) | (ty == 3) | (ty == 4)
-}
-
-// Whether a type has the right to a unary operator.
-pub fn unary_right(op: u8, ty: u8) -> bool
-    ensures { λ a. ⌜ a ≡ unaryRightOf op ty ⌝ }
-{
-    (op == 1) & (ty == 0)
-        | (op == 2) & (1 <= ty) & ((ty <= 3) | (5 <= ty))
-        | (op == 3) & ((ty == 1) | (ty == 3) | (ty == 4))
-}
-
-// The stage of a code.
-fn stage_of(code: u8) -> ShaderStage
-    ensures { λ r. ⌜ r ≡ stageOf code ⌝ }
-{
-    match code {
-        0 => ShaderStage::Const,
-        1 => ShaderStage::Override,
-        _ => ShaderStage::Exec,
-    }
-}
-
 // A refusal as a step.
 fn refuse(number: u8, detail: u32) -> Step
     ensures { λ r. ⌜ r ≡ Step.Refused (refusal number detail) ⌝ }
@@ -210,21 +36,33 @@ fn refuse(number: u8, detail: u32) -> Step
     Step::Refused(Refusal { number, detail })
 }
 
-// An answer as a step.
+// The number of a refusal; 0 for a value.
+fn number(a: Answer) -> u8
+    ensures { λ r. ⌜ r ≡ numberOf (answerOf a) ⌝ }
+{
+    match a {
+        Answer::Value(_) => 0,
+        Answer::Unary => 1,
+        Answer::Binary => 2,
+        Answer::AddOverflow => 4,
+        Answer::SubOverflow => 5,
+        Answer::MulOverflow => 6,
+        Answer::DivByZero => 7,
+        Answer::RemZeroDiv => 8,
+        Answer::ShlOverflow(_) => 9,
+        Answer::ShrOverflow(_) => 10,
+    }
+}
+
+// An answer as a step; only a shift's refusal has a detail.
 fn step_of(a: Answer) -> Step
     ensures { λ r. ⌜ r ≡ stepped (answerOf a) ⌝ }
 {
     match a {
-        Answer::Value(s) => Step::Bits(convert::type_of(s), pattern::bits_of(s)),
-        Answer::Unary => refuse(1, 0),
-        Answer::Binary => refuse(2, 0),
-        Answer::AddOverflow => refuse(4, 0),
-        Answer::SubOverflow => refuse(5, 0),
-        Answer::MulOverflow => refuse(6, 0),
-        Answer::DivByZero => refuse(7, 0),
-        Answer::RemZeroDiv => refuse(8, 0),
+        Answer::Value(s) => Step::Bits(value::type_of(s), pattern::bits_of(s)),
         Answer::ShlOverflow(n) => refuse(9, n),
         Answer::ShrOverflow(n) => refuse(10, n),
+        _ => refuse(number(a), 0),
     }
 }
 
@@ -235,20 +73,9 @@ fn binary_op(op: u8, stage: ShaderStage, p: Pair) -> Answer
     match op {
         1 => logical::or_pair(p),
         2 => logical::and_pair(p),
-        3 => arithmetic::add_pair(stage, p),
-        4 => arithmetic::sub_pair(stage, p),
-        5 => arithmetic::mul_pair(stage, p),
-        6 => arithmetic::div_pair(stage, p),
-        7 => arithmetic::rem_pair(stage, p),
-        8 => comparison::eq_pair(p),
-        9 => comparison::ne_pair(p),
-        10 => comparison::lt_pair(p),
-        11 => comparison::le_pair(p),
-        12 => comparison::gt_pair(p),
-        13 => comparison::ge_pair(p),
-        14 => bits::bitor_pair(p),
-        15 => bits::bitand_pair(p),
-        16 => bits::bitxor_pair(p),
+        3 | 4 | 5 | 6 | 7 => arithmetic::arithmetic_pair(op, stage, p),
+        8 | 9 | 10 | 11 | 12 | 13 => comparison::compare(op, p),
+        14 | 15 | 16 => bits::bits_pair(op, p),
         _ => Answer::Binary,
     }
 }
@@ -261,20 +88,22 @@ fn shift_op(op: u8, stage: ShaderStage, l: Found, count: Found) -> Answer
         return Answer::Binary;
     };
     match op {
-        17 => shifts::shl(stage, s, count),
-        18 => shifts::shr(stage, s, count),
+        17 | 18 => shifts::shift(op == 18, stage, s, count),
         _ => Answer::Binary,
     }
 }
 
 // A unary operator, by its code.
-fn unary_op(op: u8, s: Scalar) -> Answer
-    ensures { λ a. ⌜ answerOf a ≡ unaryOf op s ⌝ }
+fn unary_op(op: u8, v: Found) -> Answer
+    ensures { λ a. ⌜ answerOf a ≡ onScalar v (unaryOf op) unary ⌝ }
 {
+    let Found::Value(s) = v else {
+        return Answer::Unary;
+    };
     match op {
-        1 => s.op_not(),
-        2 => s.op_neg(),
-        3 => s.op_bitnot(),
+        1 => logical::op_not(s),
+        2 => arithmetic::op_neg(s),
+        3 => bits::op_bitnot(s),
         _ => Answer::Unary,
     }
 }
@@ -311,20 +140,7 @@ pub fn add_product(stage: u8, ty: u8, sum: u64, l: u64, r: u64) -> Step
 pub fn unary_step(op: u8, ty: u8, v: u64) -> Step
     ensures { λ a. ⌜ a ≡ unaryStepOf op ty v ⌝ }
 {
-    let Found::Value(s) = pattern::scalar_of(ty, v) else {
-        return refuse(1, 0);
-    };
-    step_of(unary_op(op, s))
-}
-
-// The bits of what was found.
-fn conv_of(f: Found) -> Conv
-    ensures { λ r. ⌜ r ≡ converted f ⌝ }
-{
-    match f {
-        Found::Value(s) => Conv::Bits(pattern::bits_of(s)),
-        Found::Nothing => Conv::Nothing,
-    }
+    step_of(unary_op(op, pattern::scalar_of(ty, v)))
 }
 
 // A pattern of one type as one of another.
@@ -334,5 +150,8 @@ pub fn convert_step(from: u8, to: u8, bits: u64) -> Conv
     let Found::Value(s) = pattern::scalar_of(from, bits) else {
         return Conv::Nothing;
     };
-    conv_of(convert::convert(to, s))
+    let Found::Value(t) = convert::convert(to, s) else {
+        return Conv::Nothing;
+    };
+    Conv::Bits(pattern::bits_of(t))
 }

@@ -13,8 +13,8 @@ use rounding::finite_half;
 use rounding::half_to_f32;
 ghost use mathlib.Core.Bool.{_&&_, not};
 ghost use mathlib.Core.Path.{_≡_};
-ghost use Rattle.scalar.specs.Answer.{refusal};
-ghost use Rattle.scalar.specs.Pattern.{pick};
+ghost use Rattle.value.specs.Answer.{refusal};
+ghost use Rattle.value.specs.Pattern.{pick};
 ghost use Rattle.scalar.specs.Step.{productAdded};
 
 // In any type: one step, and another with its bits.
@@ -48,13 +48,8 @@ pub(crate) fn f32_product(stage: u8, sum: u32, l: u32, r: u32) -> Step
     let x = f32_of_bits(l);
     let p = x * f32_of_bits(r);
     let t = f32_of_bits(sum) + p;
-    outcome(
-        stage < 2,
-        finite_f32(p),
-        finite_f32(t),
-        5,
-        f32_bits(t) as u64,
-    )
+    let bits = f32_bits(t) as u64;
+    outcome(stage < 2, finite_f32(p), finite_f32(t), 5, bits)
 }
 
 // In F64: every stage asks for finite results.
@@ -72,5 +67,6 @@ pub(crate) fn half_product(stage: u8, sum: u16, l: u16, r: u16) -> Step
 {
     let p = f32_to_half(half_to_f32(l) * half_to_f32(r));
     let t = f32_to_half(half_to_f32(sum) + half_to_f32(p));
-    outcome(stage < 2, finite_half(p), finite_half(t), 6, t as u64)
+    let bits = t as u64;
+    outcome(stage < 2, finite_half(p), finite_half(t), 6, bits)
 }

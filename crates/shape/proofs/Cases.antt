@@ -3,15 +3,17 @@ use mathlib.Core.Path.{_≡_, refl}
 use mathlib.Core.List.{List, [], _∷_, _++_, map}
 use Prim.Native.Nat.{ℕ, _-_}
 use lib.ListN.{length, replicate}
-use Rattle.scalar.specs.Pattern.{keptOf}
+use Rattle.value.specs.Pattern.{keptOf}
 use Rattle.scalar.specs.Step.{stepOf, convOf}
-use Rattle.shape.specs.Operand.{upTo, every, goodOf}
-use Rattle.shape.specs.Components.{through}
-use Rattle.shape.specs.Products.{sumTo}
-use Rattle.shape.specs.Pairing.{targetsOf}
-use Rattle.shape.specs.Meaning.{refusedWith, valueOf, compwise, multiplied, typed, convertedTo, judged, binaryMeaning}
-use Rattle.shape.specs.declared.Instance.{Instance}
-use Rattle.shape.specs.declared.Outcome.{Outcome}
+use Rattle.operand.specs.Operand.{upTo, every, operandFormed}
+use Rattle.components.specs.Components.{allOrRefusal}
+use Rattle.products.specs.Products.{sumTo}
+use Rattle.pairing.specs.Pairing.{targetsOf}
+use Rattle.types.specs.Types.{commonType}
+use Rattle.operand.specs.Outcome.{refusedWith, valueOf}
+use Rattle.dispatch.specs.Meaning.{byComponent, matrixProduct, onConverted, convertedTo, judged, binaryMeaning}
+use Rattle.operand.specs.declared.Instance.{Instance}
+use Rattle.operand.specs.declared.Outcome.{Outcome}
 use Rattle.integer.specs.Wrap.{wrapU, wrapS}
 use Rattle.rounding.specs.Arithmetic.{sum, add, mul}
 use Rattle.rounding.specs.Bits.{ofFields, ofBits, toBits}
@@ -63,11 +65,13 @@ cases =
     ∷ case 3 0 (one 6 0x7BFF) (one 6 0x4B80) (valueOf (one 6 0x7BFF))
     ∷ case 3 0 (one 6 0x7BFF) (one 6 0x4C00) (refusedWith 4 0)
     -- (1,2) times columns (3,4),(5,6) = (11,17)
-    ∷ case 5 0 (value 5 1 2 (0x3F800000 ∷ 0x40000000 ∷ [])) (value 5 2 2 (0x40400000 ∷ 0x40800000 ∷ 0x40A00000 ∷ 0x40C00000 ∷ [])) (valueOf (value 5 1 2 (0x41300000 ∷ 0x41880000 ∷ [])))
+    ∷ case 5 0 (value 5 1 2 (0x3F800000 ∷ 0x40000000 ∷ [])) (value 5 2 2 (0x40400000 ∷ 0x40800000 ∷ 0x40A00000 ∷ 0x40C00000 ∷ []))
+    (valueOf (value 5 1 2 (0x41300000 ∷ 0x41880000 ∷ [])))
     -- true && false = false
     ∷ case 2 0 (one 0 1) (one 0 0) (valueOf (one 0 0))
     ∷ []
 
 pub table : map (λ (c : Case). binaryMeaning (c .op) (c .stage) (c .left) (c .right)) cases ≡ map (λ (c : Case). c .gives) cases
-unfolding cases wrapU wrapS sum add mul ofFields ofBits toBits unitsIn roundTo convert keptOf stepOf convOf upTo every goodOf through sumTo targetsOf compwise multiplied typed convertedTo judged binaryMeaning
+unfolding cases wrapU wrapS sum add mul ofFields ofBits toBits unitsIn roundTo convert keptOf stepOf convOf
+    upTo every operandFormed allOrRefusal sumTo targetsOf commonType byComponent matrixProduct onConverted convertedTo judged binaryMeaning
 table = refl

@@ -1,5 +1,2 @@
-pub mod Operand
-pub mod Components
-pub mod Products
-pub mod Pairing
-pub mod Meaning
+-- Scalars as operands and answers. Assumes nothing.
+pub mod Scalars

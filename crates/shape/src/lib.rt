@@ -1,78 +1,21 @@
-// Scalars, vectors and matrices as one flat record, and every operator on them. A scalar's own
-// operations are those of the crate `scalar`, known here by their contracts alone.
-//   operand.rt     which operands are well formed
-//   pairing.rt     which shapes and types an operator takes
-//   components.rt  work component by component
-//   products.rt    sums of products: vector and matrix, matrix and matrix
-//   dispatch.rt    an operator on operands of any shape, check after check
-//   scalars.rt     the same on scalars, without arrays
-//   operators.rt   the operators under their own names
+// The operators by their codes, on scalars, vectors and matrices. A scalar's own operations are those of the crate `scalar`, known here
+// by their contracts alone.
+//   scalars.rt     an operator on scalars, without arrays
 ghost use mathlib.Core.Path.{_≡_};
-ghost use Rattle.shape.specs.Operand.{shapeOk};
-ghost use Rattle.shape.specs.Meaning.{refusedWith, valueOf, aScalar, unaryMeaning, binaryMeaning};
+ghost use Rattle.operand.specs.Operand.{aScalar};
+ghost use Rattle.dispatch.specs.Meaning.{unaryMeaning, binaryMeaning};
 
-mod components;
-mod dispatch;
-mod operand;
-mod operators;
-mod pairing;
-mod products;
 mod scalars;
 
+use operand::Instance;
+use operand::Outcome;
 use operand::Shape;
-
-// A scalar, vector or matrix: its components, column by column, and its type, columns and rows. The components stand first, at
-// an even place, where a copy of them is cheapest.
-pub struct Instance {
-    pub comps: [u64; 16],
-    pub ty: u8,
-    pub cols: u8,
-    pub rows: u8,
-}
-
-// An answer: status 0 and a value, or a refusal's number and detail and a value of zeros.
-pub struct Outcome {
-    pub value: Instance,
-    pub detail: u32,
-    pub status: u8,
-}
-
-// A refusal as an answer.
-pub fn refused(status: u8, detail: u32) -> Outcome
-    ensures { λ o. ⌜ o ≡ refusedWith status detail ⌝ }
-{
-    Outcome {
-        status,
-        detail,
-        value: Instance {
-            ty: 0,
-            cols: 0,
-            rows: 0,
-            comps: [0u64; 16],
-        },
-    }
-}
-
-// A value as an answer.
-pub fn answered(value: Instance) -> Outcome
-    ensures { λ o. ⌜ o ≡ valueOf value ⌝ }
-{
-    Outcome {
-        status: 0,
-        detail: 0,
-        value,
-    }
-}
-
-// Whether a type is known and has the shape.
-pub fn shape_ok(ty: u8, cols: u8, rows: u8) -> bool
-    ensures { λ r. ⌜ r ≡ shapeOk ty cols rows ⌝ }
-{
-    (ty <= 6)
-        & (1 <= rows)
-        & (rows <= 4)
-        & ((cols == 1) | (2 <= cols) & (cols <= 4) & (2 <= rows) & ((ty == 2) | (5 <= ty)))
-}
+use operand::formed;
+use operand::is_scalar;
+use operand::refused;
+use pairing::call_fault;
+use pairing::op_known;
+use pairing::unary_known;
 
 // The unary operator of a code on a scalar, by its type and pattern.
 pub fn unary_scalar(op: u8, stage: u8, ty: u8, bits: u64) -> Outcome
@@ -89,18 +32,13 @@ pub fn unary(op: u8, stage: u8, v: Instance) -> Outcome
         cols: v.cols,
         rows: v.rows,
     };
-    if operand::is_scalar(s) {
+    if is_scalar(s) {
         let step = scalars::unary(op, stage, v.ty, v.comps[0]);
         return scalars::settled(step);
     }
-    if !pairing::unary_known(op) {
-        return refused(25, 0);
-    }
-    if !pairing::stage_known(stage) {
-        return refused(23, 0);
-    }
-    if !operand::good(v) {
-        return refused(26, 0);
+    let fault = call_fault(unary_known(op), stage, formed(v));
+    if fault != 0 {
+        return refused(fault, 0);
     }
     dispatch::unary_judge(op, v)
 }
@@ -124,21 +62,13 @@ pub fn binary(op: u8, stage: u8, l: Instance, r: Instance) -> Outcome
         cols: r.cols,
         rows: r.rows,
     };
-    if operand::is_scalar(a) & operand::is_scalar(b) {
+    if is_scalar(a) & is_scalar(b) {
         let step = scalars::binary(op, stage, l.ty, l.comps[0], r.ty, r.comps[0]);
         return scalars::settled(step);
     }
-    if !pairing::op_known(op) {
-        return refused(25, 0);
-    }
-    if !pairing::stage_known(stage) {
-        return refused(23, 0);
-    }
-    if !operand::good(l) {
-        return refused(26, 0);
-    }
-    if !operand::good(r) {
-        return refused(26, 0);
+    let fault = call_fault(op_known(op), stage, formed(l) & formed(r));
+    if fault != 0 {
+        return refused(fault, 0);
     }
     dispatch::judge(op, stage, l, r)
 }

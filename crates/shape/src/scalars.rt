@@ -1,23 +1,23 @@
 // An operator on scalars, which go by their types and patterns and without arrays: the checks of `unary` and `binary` in their order.
-use super::pairing::Targets;
-use super::pairing::op_known;
-use super::pairing::result_type;
-use super::pairing::stage_known;
-use super::pairing::targets_of;
-use super::pairing::unary_known;
-use crate::Instance;
-use crate::Outcome;
-use crate::answered;
-use crate::refused;
+use operand::Instance;
+use operand::Outcome;
+use operand::answered;
+use operand::refused;
+use pairing::Targets;
+use pairing::op_known;
+use pairing::stage_known;
+use pairing::targets_of;
+use pairing::unary_known;
 use scalar::Conv;
-use scalar::Refusal;
 use scalar::Step;
+use value::Refusal;
 ghost use mathlib.Core.Path.{_≡_};
 ghost use mathlib.Core.Bool.{true};
 ghost use Rattle.scalar.specs.Step.{refusal};
-ghost use Rattle.shape.specs.Operand.{goodOf};
-ghost use Rattle.shape.specs.Pairing.{targetsOf};
-ghost use Rattle.shape.specs.Meaning.{aScalar, oneOf, stepAnswer, scalarsTyped, convertedTo, judged, unaryMeaning, binaryMeaning};
+ghost use Rattle.operand.specs.Operand.{operandFormed, aScalar};
+ghost use Rattle.pairing.specs.Pairing.{targetsOf};
+ghost use Rattle.dispatch.specs.Meaning.{convertedTo, judged, unaryMeaning, binaryMeaning};
+ghost use Rattle.shape.specs.Scalars.{scalarAnswer, stepAnswer, onScalars};
 
 // A refusal without a detail, as a step.
 fn refuse(number: u8) -> Step
@@ -28,7 +28,7 @@ fn refuse(number: u8) -> Step
 
 // A scalar as an answer.
 fn one(ty: u8, bits: u64) -> Outcome
-    ensures { λ o. ⌜ o ≡ oneOf ty bits ⌝ }
+    ensures { λ o. ⌜ o ≡ scalarAnswer ty bits ⌝ }
 {
     let mut comps = [0u64; 16];
     comps[0] = bits;
@@ -60,36 +60,36 @@ pub(crate) fn unary(op: u8, stage: u8, ty: u8, bits: u64) -> Step
     if !stage_known(stage) {
         return refuse(23);
     }
-    if !scalar::proper(ty, bits) {
+    if !value::proper(ty, bits) {
         return refuse(26);
     }
-    if !scalar::unary_right(op, ty) {
+    if !types::unary_right(op, ty) {
         return refuse(1);
     }
     let step = scalar::unary_step(op, ty, bits);
-    let Step::Bits(_, worked) = step else {
+    let Step::Bits(_, answer) = step else {
         return step;
     };
-    Step::Bits(ty, worked)
+    Step::Bits(ty, answer)
 }
 
 // Two converted patterns: the type's right, and one step.
 fn operate(op: u8, stage: u8, ty: u8, p: u64, q: u64) -> Step
-    ensures { λ s. ⌜ stepAnswer s ≡ scalarsTyped op stage ty p q ⌝ }
+    ensures { λ s. ⌜ stepAnswer s ≡ onScalars op stage ty p q ⌝ }
 {
-    if !scalar::right(op, ty) {
+    if !types::right(op, ty) {
         return refuse(2);
     }
     let step = scalar::binary_step(op, stage, ty, p, q);
     let Step::Bits(_, bits) = step else {
         return step;
     };
-    Step::Bits(result_type(op, ty), bits)
+    Step::Bits(types::result_type(op, ty), bits)
 }
 
 // Conversions of both, left first, and what comes after. Patterns that have their types are worked on as they stand.
 fn convert(op: u8, stage: u8, x: u8, y: u8, lt: u8, l: u64, rt: u8, r: u64) -> Step
-    requires { ⌜ (goodOf (aScalar lt l) ≡ true) × (goodOf (aScalar rt r) ≡ true) × (targetsOf op lt rt ≡ Targets.Types x y) ⌝ }
+    requires { ⌜ (operandFormed (aScalar lt l) ≡ true) × (operandFormed (aScalar rt r) ≡ true) × (targetsOf op lt rt ≡ Targets.Types x y) ⌝ }
     ensures { λ s. ⌜ stepAnswer s ≡ convertedTo x y op stage (aScalar lt l) (aScalar rt r) ⌝ }
 {
     if (lt == x) & (rt == y) {
@@ -108,7 +108,7 @@ fn convert(op: u8, stage: u8, x: u8, y: u8, lt: u8, l: u64, rt: u8, r: u64) -> S
 
 // The common type, and what comes after.
 fn judge(op: u8, stage: u8, lt: u8, l: u64, rt: u8, r: u64) -> Step
-    requires { ⌜ (goodOf (aScalar lt l) ≡ true) × (goodOf (aScalar rt r) ≡ true) ⌝ }
+    requires { ⌜ (operandFormed (aScalar lt l) ≡ true) × (operandFormed (aScalar rt r) ≡ true) ⌝ }
     ensures { λ s. ⌜ stepAnswer s ≡ judged op stage (aScalar lt l) (aScalar rt r) ⌝ }
 {
     let targets = targets_of(op, lt, rt);
@@ -128,10 +128,10 @@ pub(crate) fn binary(op: u8, stage: u8, lt: u8, l: u64, rt: u8, r: u64) -> Step
     if !stage_known(stage) {
         return refuse(23);
     }
-    if !scalar::proper(lt, l) {
+    if !value::proper(lt, l) {
         return refuse(26);
     }
-    if !scalar::proper(rt, r) {
+    if !value::proper(rt, r) {
         return refuse(26);
     }
     judge(op, stage, lt, l, rt, r)

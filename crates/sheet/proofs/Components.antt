@@ -6,14 +6,16 @@ use Prim.Native.Nat.{ℕ, zero, suc, _+_, _*_, _-_, _<_, _≤_}
 use native.Mathlib.Nat.{mul-le-mul, le-antisymm}
 use native.Mathlib.Numerals.{sub-one, add-one}
 use native.Mathlib.Omega.{arith}
-use lib.Dec.{leb, eqb}
+use lib.Dec.{eqb}
 use lib.ListN.{length, set, replicate}
 use lib.Seq.{set-at}
-use borrow.Author.Tests.{leb-true, eqb-true}
-use Rattle.scalar.specs.Pattern.{pick, properOf, keptOf}
-use Rattle.shape.specs.Operand.{floatOf, shapeOk}
+use Rattle.types.specs.Types.{concreteOf}
+use Rattle.value.specs.Pattern.{pick, properOf, keptOf}
+use Rattle.operand.specs.Operand.{shapeOk}
+use Rattle.operand.proofs.Tests.{both}
+use Rattle.operand.proofs.Shapes.{shape-small}
+use Rattle.sheet.specs.declared.literals.LiteralHead.{LiteralHead}
 use Rattle.sheet.specs.Node.{leWord, allProper, components, literalOk}
-use Rattle.sheet.proofs.Reading.{and-left, and-right}
 
 -- ---- every component proper
 open-proper : (ty n : ℕ) (b : List ℕ) (at : ℕ) → 0 < n → allProper ty n b at ≡ pick (properOf ty (leWord 8 b at)) (allProper ty (n - 1) b (at + 8)) false
@@ -72,29 +74,19 @@ one-loaded ty out b at n w v h e q k =
 pub all-loaded : (ty : ℕ) (out b : List ℕ) (at i n : ℕ) → i ≤ n → n ≤ i → out ≡ loaded ty i b at → out ≡ loaded ty n b at
 all-loaded ty out b at i n h k e = e ∙ ap (λ (j : ℕ). loaded ty j b at) (le-antisymm h k)
 
--- ---- a literal's type and shape, by the answer g of the test of the shape
-pub ok-by-shape : (g setting : Bool) (ty cols rows : ℕ) → g ≡ shapeOk ty cols rows
-    → g && (not setting || ((eqb ty 0 || leb 3 ty) && eqb cols 1 && eqb rows 1)) ≡ literalOk setting ty cols rows
-ok-by-shape g setting ty cols rows e = ap (λ (x : Bool). x && (not setting || ((eqb ty 0 || leb 3 ty) && eqb cols 1 && eqb rows 1))) e
+-- ---- a literal's type and shape, by the answers g and k of the tests of its shape and of its type
+pub ok-by-tests : (g k setting : Bool) (h : LiteralHead) → g ≡ shapeOk (h .ty) (h .cols) (h .rows) → k ≡ concreteOf (h .ty)
+    → g && (not setting || (k && eqb (h .cols) 1 && eqb (h .rows) 1)) ≡ literalOk setting h
+ok-by-tests g k setting h e q =
+    ap (λ (x : Bool). x && (not setting || (k && eqb (h .cols) 1 && eqb (h .rows) 1))) e
+    ∙ ap (λ (x : Bool). shapeOk (h .ty) (h .cols) (h .rows) && (not setting || (x && eqb (h .cols) 1 && eqb (h .rows) 1))) q
 
 -- a shape that there is has at most 16 components
-shape-small : (ty cols rows : ℕ) → shapeOk ty cols rows ≡ true → cols * rows ≤ 16
-shape-small ty cols rows e =
-    mul-le-mul
-    (go (eqb cols 1) refl (and-right (leb ty 6 && leb 1 rows && leb rows 4) (eqb cols 1 || (leb 2 cols && leb cols 4 && leb 2 rows && floatOf ty)) e))
-    (leb-true rows 4 (and-right (leb ty 6 && leb 1 rows) (leb rows 4) (and-left (leb ty 6 && leb 1 rows && leb rows 4) (eqb cols 1 || (leb 2 cols && leb cols 4 && leb 2 rows && floatOf ty)) e)))
-  where
-    go : (g : Bool) → eqb cols 1 ≡ g → g || (leb 2 cols && leb cols 4 && leb 2 rows && floatOf ty) ≡ true → cols ≤ 4
-    go true q h = omega (arith, eqb-true cols 1 q)
-    go false q h = leb-true cols 4 (and-right (leb 2 cols) (leb cols 4) (and-left (leb 2 cols && leb cols 4) (leb 2 rows) (and-left (leb 2 cols && leb cols 4 && leb 2 rows) (floatOf ty) h)))
-
-pub literal-small : (setting : Bool) (ty cols rows : ℕ) → literalOk setting ty cols rows ≡ true → cols * rows ≤ 16
-literal-small setting ty cols rows e = shape-small ty cols rows (and-left (shapeOk ty cols rows) (not setting || ((eqb ty 0 || leb 3 ty) && eqb cols 1 && eqb rows 1)) e)
+pub literal-small : (setting : Bool) (h : LiteralHead) → literalOk setting h ≡ true → h .cols * h .rows ≤ 16
+literal-small setting h e =
+    let s = shape-small (h .ty) (h .cols) (h .rows) (both (shapeOk (h .ty) (h .cols) (h .rows)) _ e .0) in
+    mul-le-mul (s .1) (s .3)
 
 -- a setting's literal is a literal
-pub setting-ok : (ty cols rows : ℕ) → literalOk true ty cols rows ≡ true → literalOk false ty cols rows ≡ true
-setting-ok ty cols rows e = go (shapeOk ty cols rows) e
-  where
-    go : (g : Bool) → g && ((eqb ty 0 || leb 3 ty) && eqb cols 1 && eqb rows 1) ≡ true → g && true ≡ true
-    go true h = refl
-    go false h = h
+pub setting-ok : (h : LiteralHead) → literalOk true h ≡ true → literalOk false h ≡ true
+setting-ok h e = rw (both (shapeOk (h .ty) (h .cols) (h .rows)) _ e .0)

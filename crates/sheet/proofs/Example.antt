@@ -3,15 +3,15 @@ use mathlib.Core.Path.{_≡_, refl}
 use mathlib.Core.List.{List, [], _∷_}
 use Prim.Native.Nat.{ℕ}
 use lib.ListN.{replicate}
-use Rattle.scalar.specs.Pattern.{keptOf}
-use Rattle.shape.specs.declared.Instance.{Instance}
-use Rattle.sheet.specs.Read.{found, need, andThen, made, moved}
-use Rattle.sheet.specs.Tree.{literal, reference, binary, setting, expression, stageOf}
+use Rattle.value.specs.Pattern.{keptOf}
+use Rattle.operand.specs.declared.Instance.{Instance}
+use Rattle.sheet.specs.Read.{found, must, thenRead, readAs, placedFrom}
+use Rattle.sheet.specs.Tree.{literal, reference, binary, setting, expression, entryStage}
 use Rattle.sheet.specs.Node.{allProper, components, readLiteral, readReference, operands, readOperator, tagOf, onTag, readNode}
-use Rattle.sheet.specs.Record.{readHead, partOf, readSetting, readExpression, readBody, readRecord}
+use Rattle.sheet.specs.Record.{readHead, bodyAt, readSetting, readExpression, readBody, readRecord}
 use Rattle.sheet.specs.Sheet.{readRecords, readSheet}
 
-abbrev bytes : List ℕ
+abbrev pub bytes : List ℕ
 bytes =
     213 ∷ 23 ∷ 3 ∷ 12 ∷ 0 ∷ 1 ∷ 4 ∷ 1 ∷ 1 ∷ 5 ∷ 0 ∷ 0 ∷ 0 ∷ 0 ∷ 0 ∷ 0 ∷ 0 ∷
     213 ∷ 23 ∷ 1 ∷ 16 ∷ 0 ∷ 4 ∷ 17 ∷ 1 ∷ 4 ∷ 1 ∷ 1 ∷ 1 ∷ 0 ∷ 0 ∷ 0 ∷ 0 ∷ 0 ∷ 0 ∷ 0 ∷ 2 ∷ 0 ∷
@@ -25,5 +25,6 @@ pub example : readSheet bytes ≡ found (
     setting (u32 5) ∷
     expression 1 (binary 0 17 (literal (u32 1)) (reference 0)) ∷
     expression 1 (binary 0 4 (reference 1) (literal (u32 1))) ∷ []) 59
-unfolding need andThen made moved allProper components readLiteral readReference operands readOperator tagOf onTag readNode readHead partOf readSetting readExpression readBody readRecord readRecords readSheet stageOf
+unfolding must thenRead readAs placedFrom allProper components readLiteral readReference operands readOperator tagOf onTag readNode
+    readHead bodyAt readSetting readExpression readBody readRecord readRecords readSheet entryStage
 example = refl

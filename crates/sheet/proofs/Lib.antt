@@ -9,3 +9,4 @@ pub mod Passes
 pub mod Accepted
 pub mod Single
 pub mod Example
+pub mod Impostors

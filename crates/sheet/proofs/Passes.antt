@@ -2,23 +2,23 @@
 use mathlib.Core.Path.{_≡_, refl, sym, ap, _∙_}
 use mathlib.Core.Bool.{Bool, true, false, _||_}
 use mathlib.Core.List.{List, [], _∷_, _++_, append-assoc, append-nil}
-use Prim.Native.Nat.{ℕ, _+_, _*_, _-_, _<_, _≤_}
+use Prim.Native.Nat.{ℕ, _+_, _-_, _<_, _≤_}
 use native.Mathlib.Omega.{arith}
 use lib.Dec.{eqb}
 use lib.ListN.{length, getD, replicate, length-replicate}
-use Rattle.scalar.specs.Pattern.{pick}
+use Rattle.value.specs.Pattern.{pick}
 use Rattle.sheet.specs.declared.Seen.{Seen}
 use Rattle.sheet.specs.declared.Seen.the-variants.{Good, Refused}
 use Rattle.sheet.specs.Read.{Read, found, seenOf}
 use Rattle.sheet.specs.Tree.{Expr, literal, reference, unary, binary, names}
-use Rattle.sheet.specs.Node.{readNode, namesRead, namesIn, anyMarked}
+use Rattle.sheet.specs.Node.{literalEnd, readNode, namesRead, namesIn, anyMarked}
 use Rattle.sheet.proofs.Reading.{was-read, was-refused}
 use Rattle.sheet.proofs.Inverse.{node-ends, Stands, a-literal, a-reference, a-unary, a-binary, stands}
 
 -- trees that stand one after another, from a place up to the end
-pub data Row (b : List ℕ) (end : ℕ) : ℕ → List Expr → Type 0 where
-  done : Row b end end []
-  more : {at : ℕ} {ts : List Expr} (levels : ℕ) (t : Expr) (m : ℕ) → readNode levels (replicate 128 0) 2 b at ≡ found t m → Row b end m ts → Row b end at (t ∷ ts)
+pub data InRow (b : List ℕ) (end : ℕ) : ℕ → List Expr → Type 0 where
+  done : InRow b end end []
+  more : {at : ℕ} {ts : List Expr} (levels : ℕ) (t : Expr) (m : ℕ) → readNode levels (replicate 128 0) 2 b at ≡ found t m → InRow b end m ts → InRow b end at (t ∷ ts)
 
 -- the entries that they name
 abbrev pub namesAll : List Expr → List ℕ
@@ -28,12 +28,12 @@ namesAll (t ∷ ts) = names t ++ namesAll ts
 -- ---- where the pass stands: x is whether any entry named from here to the end is marked
 pub record Passing (b : List ℕ) (marks : List Bool) (end at : ℕ) (x : Bool) : Type 0 where
   pub rest : List Expr
-  pub row : Row b end at rest
+  pub row : InRow b end at rest
   pub same : x ≡ anyMarked marks (namesAll rest)
 
-row-le : {b : List ℕ} {end at : ℕ} {ts : List Expr} → Row b end at ts → at ≤ end
-row-le done = omega arith
-row-le {b} {end} {at} (more levels t m e r) = omega (arith, row-le r, node-ends levels (replicate 128 0) 2 b at t m e .0)
+row-ends : {b : List ℕ} {end at : ℕ} {ts : List Expr} → InRow b end at ts → at ≤ end
+row-ends done = omega arith
+row-ends {b} {end} {at} (more levels t m e r) = omega (arith, row-ends r, node-ends levels (replicate 128 0) 2 b at t m e .0)
 
 pub passing-start : (b : List ℕ) (marks : List Bool) (end : ℕ) → Good end ≡ seenOf (readNode 32 (replicate 128 0) 2 b 0) → Passing b marks end 0 (anyMarked marks (namesIn b))
 unfolding namesIn namesRead
@@ -52,10 +52,10 @@ record First (b : List ℕ) (marks : List Bool) (end at : ℕ) (x : Bool) : Type
   next : ℕ
   after : List Expr
   read : readNode levels (replicate 128 0) 2 b at ≡ found tree next
-  row : Row b end next after
+  row : InRow b end next after
   same : x ≡ anyMarked marks (names tree ++ namesAll after)
 
-first : {b : List ℕ} {end at : ℕ} {ts : List Expr} (marks : List Bool) (x : Bool) → Row b end at ts → at < end → x ≡ anyMarked marks (namesAll ts) → First b marks end at x
+first : {b : List ℕ} {end at : ℕ} {ts : List Expr} (marks : List Bool) (x : Bool) → InRow b end at ts → at < end → x ≡ anyMarked marks (namesAll ts) → First b marks end at x
 first marks x done l s = absurd (omega arith)
 first marks x (more {ts = ts} levels t m e r) l s = record { levels = levels; tree = t; next = m; after = ts; read = e; row = r; same = s }
 
@@ -63,15 +63,15 @@ pub passing-end : (b : List ℕ) (marks : List Bool) (end at : ℕ) (x : Bool) �
 unfolding anyMarked
 passing-end b marks end at x p l = go (p .row) l (p .same)
   where
-    go : {at : ℕ} {ts : List Expr} → Row b end at ts → end ≤ at → x ≡ anyMarked marks (namesAll ts) → x ≡ false
+    go : {at : ℕ} {ts : List Expr} → InRow b end at ts → end ≤ at → x ≡ anyMarked marks (namesAll ts) → x ≡ false
     go done h s = s
-    go {at} (more levels t m e r) h s = absurd (omega (arith, row-le r, node-ends levels (replicate 128 0) 2 b at t m e .0))
+    go {at} (more levels t m e r) h s = absurd (omega (arith, row-ends r, node-ends levels (replicate 128 0) 2 b at t m e .0))
 
 abbrev hitAt : List ℕ → List Bool → ℕ → Bool
 hitAt b marks at = pick (eqb (getD b at 0) 2) (getD marks (getD b (at + 1) 0) false) false
 
 abbrev nextAt : List ℕ → ℕ → ℕ
-nextAt b at = pick (eqb (getD b at 0) 1) (at + 4 + 8 * (getD b (at + 2) 0 * getD b (at + 3) 0)) (at + 2)
+nextAt b at = pick (eqb (getD b at 0) 1) (literalEnd b at) (at + 2)
 
 module _ (b : List ℕ) (marks : List Bool) (end at : ℕ) (x : Bool) (p : Passing b marks end at x) (l : at < end) where
   here : First b marks end at x
@@ -80,8 +80,8 @@ module _ (b : List ℕ) (marks : List Bool) (end at : ℕ) (x : Bool) (p : Passi
   node : Stands (here .levels) (replicate 128 0) 2 b at (here .tree) (here .next)
   node = stands (here .levels) (replicate 128 0) 2 b at (here .tree) (here .next) (here .read)
 
-  pub two-there : at + 1 < length b
-  two-there = go node
+  pub bytes-there : at + 1 < length b
+  bytes-there = go node
     where
       go : Stands (here .levels) (replicate 128 0) 2 b at (here .tree) (here .next) → at + 1 < length b
       go (a-literal q v e w) = omega (arith, w .head)
@@ -89,10 +89,10 @@ module _ (b : List ℕ) (marks : List Bool) (end at : ℕ) (x : Bool) (p : Passi
       go (a-unary q h t r e) = h
       go (a-binary q h t m u r s e) = h
 
-  pub literal-whole : getD b at 0 ≡ 1 → at + 4 + 8 * (getD b (at + 2) 0 * getD b (at + 3) 0) ≤ length b
+  pub literal-whole : getD b at 0 ≡ 1 → literalEnd b at ≤ length b
   literal-whole f = go node
     where
-      go : Stands (here .levels) (replicate 128 0) 2 b at (here .tree) (here .next) → at + 4 + 8 * (getD b (at + 2) 0 * getD b (at + 3) 0) ≤ length b
+      go : Stands (here .levels) (replicate 128 0) 2 b at (here .tree) (here .next) → literalEnd b at ≤ length b
       go (a-literal q v e w) = w .whole
       go (a-reference q h k e n) = absurd (omega (arith, sym f ∙ q))
       go (a-unary q h t r e) = absurd (omega (arith, sym f ∙ q))
@@ -131,13 +131,13 @@ module _ (b : List ℕ) (marks : List Bool) (end at : ℕ) (x : Bool) (p : Passi
       go (a-binary q k t m u r s e) = clash (no-hit 4 q refl)
 
   module _ (g : Bool) (i : g ≡ hitAt b marks at) (h : g ≡ false) (to : ℕ) (j : to ≡ nextAt b at) where
-    skip : (k : ℕ) → getD b at 0 ≡ k → eqb k 1 ≡ false → to ≡ at + 2
-    skip k q f = j ∙ ap (λ (c : ℕ). pick (eqb c 1) (at + 4 + 8 * (getD b (at + 2) 0 * getD b (at + 3) 0)) (at + 2)) q ∙ ap (λ (d : Bool). pick d (at + 4 + 8 * (getD b (at + 2) 0 * getD b (at + 3) 0)) (at + 2)) f
+    past-two : (k : ℕ) → getD b at 0 ≡ k → eqb k 1 ≡ false → to ≡ at + 2
+    past-two k q f = j ∙ ap (λ (c : ℕ). pick (eqb c 1) (literalEnd b at) (at + 2)) q ∙ ap (λ (d : Bool). pick d (literalEnd b at) (at + 2)) f
 
-    over : getD b at 0 ≡ 1 → to ≡ at + 4 + 8 * (getD b (at + 2) 0 * getD b (at + 3) 0)
-    over q = j ∙ ap (λ (c : ℕ). pick (eqb c 1) (at + 4 + 8 * (getD b (at + 2) 0 * getD b (at + 3) 0)) (at + 2)) q
+    past-literal : getD b at 0 ≡ 1 → to ≡ literalEnd b at
+    past-literal q = j ∙ ap (λ (c : ℕ). pick (eqb c 1) (literalEnd b at) (at + 2)) q
 
-    at-place : (k : ℕ) (ts : List Expr) → to ≡ k → Row b end k ts → x ≡ anyMarked marks (namesAll ts) → Passing b marks end to x
+    at-place : (k : ℕ) (ts : List Expr) → to ≡ k → InRow b end k ts → x ≡ anyMarked marks (namesAll ts) → Passing b marks end to x
     at-place k ts e r s = record { rest = ts; row = rw e r; same = s }
 
     pub passing-on : Passing b marks end to x
@@ -145,13 +145,13 @@ module _ (b : List ℕ) (marks : List Bool) (end at : ℕ) (x : Bool) (p : Passi
     passing-on = go node
       where
         go : Stands (here .levels) (replicate 128 0) 2 b at (here .tree) (here .next) → Passing b marks end to x
-        go (a-literal q v e w) = at-place (here .next) (here .after) (over q ∙ sym (w .next)) (here .row) (of-names (literal v) e)
+        go (a-literal q v e w) = at-place (here .next) (here .after) (past-literal q ∙ sym (w .next)) (here .row) (of-names (literal v) e)
         go (a-reference q k c e n) =
-            at-place (here .next) (here .after) (skip 2 q refl ∙ sym n) (here .row)
+            at-place (here .next) (here .after) (past-two 2 q refl ∙ sym n) (here .row)
             (of-names (reference (getD b (at + 1) 0)) e ∙ ap (λ (y : Bool). y || anyMarked marks (namesAll (here .after))) (sym (named-hit q) ∙ sym i ∙ h))
-        go (a-unary q k t r e) = at-place (at + 2) (t ∷ here .after) (skip 3 q refl) (more (here .levels - 1) t (here .next) r (here .row)) (of-names (unary at (getD b (at + 1) 0) t) e)
+        go (a-unary q k t r e) = at-place (at + 2) (t ∷ here .after) (past-two 3 q refl) (more (here .levels - 1) t (here .next) r (here .row)) (of-names (unary at (getD b (at + 1) 0) t) e)
         go (a-binary q k t m u r s e) =
-            at-place (at + 2) (t ∷ u ∷ here .after) (skip 4 q refl)
+            at-place (at + 2) (t ∷ u ∷ here .after) (past-two 4 q refl)
             (more (here .levels - 1) t m r (more (here .levels - 1) u (here .next) s (here .row)))
             (of-names (binary at (getD b (at + 1) 0) t u) e ∙ ap (anyMarked marks) (append-assoc (names t) (names u) (namesAll (here .after))))
 
@@ -159,12 +159,12 @@ module _ (b : List ℕ) (marks : List Bool) (end at : ℕ) (x : Bool) (p : Passi
     passing-later = go node
       where
         go : Stands (here .levels) (replicate 128 0) 2 b at (here .tree) (here .next) → at < to
-        go (a-literal q v e w) = omega (arith, over q)
-        go (a-reference q k c e n) = omega (arith, skip 2 q refl)
-        go (a-unary q k t r e) = omega (arith, skip 3 q refl)
-        go (a-binary q k t m u r s e) = omega (arith, skip 4 q refl)
+        go (a-literal q v e w) = omega (arith, past-literal q)
+        go (a-reference q k c e n) = omega (arith, past-two 2 q refl)
+        go (a-unary q k t r e) = omega (arith, past-two 3 q refl)
+        go (a-binary q k t m u r s e) = omega (arith, past-two 4 q refl)
 
 -- ---- where no expression can be read, nothing is named
-pub none-named : (b : List ℕ) (marks : List Bool) (r : Seen) (k p : ℕ) → r ≡ seenOf (readNode 32 (replicate 128 0) 2 b 0) → r ≡ Refused k p → false ≡ anyMarked marks (namesIn b)
+pub nothing-named : (b : List ℕ) (marks : List Bool) (r : Seen) (k p : ℕ) → r ≡ seenOf (readNode 32 (replicate 128 0) 2 b 0) → r ≡ Refused k p → false ≡ anyMarked marks (namesIn b)
 unfolding namesIn namesRead anyMarked
-none-named b marks r k p e q = sym (ap (λ (y : Read Expr). anyMarked marks (namesRead y)) (was-refused (readNode 32 (replicate 128 0) 2 b 0) k p (sym q ∙ e)))
+nothing-named b marks r k p e q = sym (ap (λ (y : Read Expr). anyMarked marks (namesRead y)) (was-refused (readNode 32 (replicate 128 0) 2 b 0) k p (sym q ∙ e)))

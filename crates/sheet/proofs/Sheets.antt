@@ -9,20 +9,20 @@ use lib.ListN.{length, take, set, length-append, length-set}
 use lib.Seq.{take-suc-set}
 use lib.Dec.{ltb, leb}
 use borrow.Author.Tests.{lt-ltb, le-ltb, le-leb, lt-leb}
-use Rattle.scalar.specs.Pattern.{pick}
+use Rattle.value.specs.Pattern.{pick}
 use Rattle.sheet.specs.declared.Checked.the-variants as checked
 use Rattle.sheet.specs.declared.Passed.{Passed}
 use Rattle.sheet.specs.declared.Passed.the-variants as passed
-use Rattle.sheet.specs.Read.{Read, found, refused, need, andThen}
-use Rattle.sheet.specs.Tree.{Entry, stageOf}
+use Rattle.sheet.specs.Read.{Read, found, refused, must, thenRead}
+use Rattle.sheet.specs.Tree.{Entry, entryStage}
 use Rattle.sheet.specs.Record.{readRecord, passedOf}
 use Rattle.sheet.specs.Sheet.{readRecords, readSheet, checkedOf}
-use Rattle.sheet.proofs.Reading.{never, need-found}
-use Rattle.sheet.proofs.Records.{record-kept}
+use Rattle.sheet.proofs.Reading.{never, must-found}
+use Rattle.sheet.proofs.Records.{record-there}
 
 -- ---- from the code's answer to the definition's
-was-passed : (x : Read Entry) (g n : ℕ) → passed.Entry g n ≡ passedOf x → (e : Entry) × (stageOf e ≡ g) × (x ≡ found e n)
-was-passed (found e m) g n q = (e, let h : stageOf e ≡ g = cc in h, let i : m ≡ n = cc in ap (found e) i)
+was-passed : (x : Read Entry) (g n : ℕ) → passed.Entry g n ≡ passedOf x → (e : Entry) × (entryStage e ≡ g) × (x ≡ found e n)
+was-passed (found e m) g n q = (e, let h : entryStage e ≡ g = cc in h, let i : m ≡ n = cc in ap (found e) i)
 was-passed (refused j r) g n q = absurd (let z : _≡_ {A = ℕ} 0 1 = cc in omega arith)
 
 was-stopped : (x : Read Entry) (k p : ℕ) → passed.Refused k p ≡ passedOf x → x ≡ refused k p
@@ -49,38 +49,48 @@ records-full zero s done at l e = simp (lt-ltb at (length s) l)
 records-full (suc room) s done at l e = absurd (omega arith)
 
 -- what follows one record
-abbrev next : ℕ → List ℕ → List Entry → Read Entry → Read (List Entry)
-next room s done x = andThen x (λ e n. readRecords room s (done ++ e ∷ []) n)
+abbrev afterRecord : ℕ → List ℕ → List Entry → Read Entry → Read (List Entry)
+afterRecord room s done x = thenRead x (λ e n. readRecords room s (done ++ e ∷ []) n)
 
 records-step : (room : ℕ) (s : List ℕ) (done : List Entry) (at : ℕ) → at < length s → 0 < room
-    → readRecords room s done at ≡ next (room - 1) s done (readRecord (map stageOf done) s at)
+    → readRecords room s done at ≡ afterRecord (room - 1) s done (readRecord (map entryStage done) s at)
 unfolding readRecords
 records-step zero s done at l e = absurd (omega arith)
 records-step (suc room) s done at l e = simp (lt-ltb at (length s) l, sub-one (suc room))
 
-module _ (room : ℕ) (s : List ℕ) (done : List Entry) (at : ℕ) (stages : List ℕ) (l : at < length s) (h : 0 < room) (r : stages ≡ map stageOf done) where
-  step : (x : Read Entry) → readRecord stages s at ≡ x → readRecords room s done at ≡ next (room - 1) s done x
-  step x e = records-step room s done at l h ∙ ap (next (room - 1) s done) (ap (λ (k : List ℕ). readRecord k s at) (sym r) ∙ e)
+module _ (room : ℕ) (s : List ℕ) (done : List Entry) (at : ℕ) (stages : List ℕ) (l : at < length s) (h : 0 < room) (r : stages ≡ map entryStage done) where
+  step : (x : Read Entry) → readRecord stages s at ≡ x → readRecords room s done at ≡ afterRecord (room - 1) s done x
+  step x e = records-step room s done at l h ∙ ap (afterRecord (room - 1) s done) (ap (λ (k : List ℕ). readRecord k s at) (sym r) ∙ e)
 
   records-bad : (k p : ℕ) → readRecord stages s at ≡ refused k p → readRecords room s done at ≡ refused k p
-  unfolding andThen
+  unfolding thenRead
   records-bad k p q = step (refused k p) q
 
   records-next : (e : Entry) (n : ℕ) → readRecord stages s at ≡ found e n → readRecords room s done at ≡ readRecords (room - 1) s (done ++ e ∷ []) n
-  unfolding andThen
+  unfolding thenRead
   records-next e n q = step (found e n) q
 
 -- a record that is read ends past its start, and within the sheet
 pub record-past : (stages s : List ℕ) (at g n : ℕ) (r : Passed) → r ≡ passedOf (readRecord stages s at) → r ≡ passed.Entry g n → (at < n) × (n ≤ length s)
 record-past stages s at g n r e q =
     let w = was-passed (readRecord stages s at) g n (sym q ∙ e) in
-    let k = record-kept stages s at (w .0) n (w .2) in
+    let k = record-there stages s at (w .0) n (w .2) in
     (omega (arith, k .ends, k .after), omega (arith, k .ends, k .inside))
+
+-- the stages of the entries done, one more entry
+one-staged : (stages : List ℕ) (n g : ℕ) (done : List Entry) (e : Entry) → n < length stages → take n stages ≡ map entryStage done → entryStage e ≡ g
+    → take (n + 1) (set stages n g) ≡ map entryStage (done ++ e ∷ [])
+one-staged stages n g done e h f q =
+    rw add-one
+    (take-suc-set stages n g h
+    ∙ ap (λ (l : List ℕ). l ++ g ∷ []) f
+    ∙ ap (λ (k : ℕ). map entryStage done ++ k ∷ []) (sym q)
+    ∙ sym (map-append entryStage done (e ∷ [])))
 
 -- ---- where the loop over the records stands: the entries done, and their stages in the front of the array
 pub record Going (s stages : List ℕ) (n at : ℕ) : Type 0 where
   pub done : List Entry
-  pub staged : take n stages ≡ map stageOf done
+  pub staged : take n stages ≡ map entryStage done
   pub counted : length done ≡ n
   pub room : n ≤ 128
   pub wide : length stages ≡ 128
@@ -88,11 +98,11 @@ pub record Going (s stages : List ℕ) (n at : ℕ) : Type 0 where
   pub same : readSheet s ≡ readRecords (128 - n) s done at
 
 pub sheet-long : (s : List ℕ) → 16384 < length s → checked.Refused 20 0 ≡ checkedOf (readSheet s)
-unfolding readSheet need
+unfolding readSheet must
 sheet-long s l = simp (lt-leb (length s) 16384 l)
 
 pub going-start : (s stages : List ℕ) → length stages ≡ 128 → length s ≤ 16384 → Going s stages 0 0
-unfolding readSheet need
+unfolding readSheet must
 going-start s stages w l = record { done = []; staged = refl; counted = refl; room = omega arith; wide = w; short = l; same = simp (le-leb (length s) 16384 l) }
 
 module _ (s stages : List ℕ) (n at : ℕ) (i : Going s stages n at) where
@@ -104,25 +114,28 @@ module _ (s stages : List ℕ) (n at : ℕ) (i : Going s stages n at) where
 
   module _ (l : at < length s) (h : n < 128) (r : Passed) (e : r ≡ passedOf (readRecord (take n stages) s at)) where
     pub going-bad : (k p : ℕ) → r ≡ passed.Refused k p → checked.Refused k p ≡ checkedOf (readSheet s)
-    going-bad k p q = sym (ap checkedOf (i .same ∙ records-bad (128 - n) s (i .done) at (take n stages) l (omega arith) (i .staged) k p (was-stopped (readRecord (take n stages) s at) k p (sym q ∙ e))))
+    going-bad k p q =
+        let x = was-stopped (readRecord (take n stages) s at) k p (sym q ∙ e) in
+        sym (ap checkedOf (i .same ∙ records-bad (128 - n) s (i .done) at (take n stages) l (omega arith) (i .staged) k p x))
 
     pub going-on : (g m : ℕ) → r ≡ passed.Entry g m → Going s (set stages n g) (n + 1) m
     going-on g m q =
         let w = was-passed (readRecord (take n stages) s at) g m (sym q ∙ e) in
+        let after = records-next (128 - n) s (i .done) at (take n stages) l (omega arith) (i .staged) (w .0) m (w .2) in
         record {
           done = i .done ++ w .0 ∷ [];
-          staged = rw add-one (take-suc-set stages n g (omega (arith, i .wide)) ∙ ap (λ (f : List ℕ). f ++ g ∷ []) (i .staged) ∙ ap (λ (k : ℕ). map stageOf (i .done) ++ k ∷ []) (sym (w .1)) ∙ sym (map-append stageOf (i .done) (w .0 ∷ [])));
+          staged = one-staged stages n g (i .done) (w .0) (omega (arith, i .wide)) (i .staged) (w .1);
           counted = length-append (i .done) (w .0 ∷ []) ∙ omega (arith, i .counted);
           room = omega arith;
           wide = length-set stages n g ∙ i .wide;
           short = i .short;
-          same = i .same ∙ records-next (128 - n) s (i .done) at (take n stages) l (omega arith) (i .staged) (w .0) m (w .2) ∙ ap (λ (k : ℕ). readRecords k s (i .done ++ w .0 ∷ []) m) (omega arith);
+          same = i .same ∙ after ∙ ap (λ (k : ℕ). readRecords k s (i .done ++ w .0 ∷ []) m) (omega arith);
         }
 
 -- ---- backwards: a sheet that was accepted
 pub sheet-good : (s : List ℕ) (es : List Entry) (n : ℕ) → readSheet s ≡ found es n → readRecords 128 s [] 0 ≡ found es n
 unfolding readSheet
-sheet-good s es n e = need-found (leb (length s) 16384) 20 0 (readRecords 128 s [] 0) es n e .1
+sheet-good s es n e = must-found (leb (length s) 16384) 20 0 (readRecords 128 s [] 0) es n e .1
 
 unlike : (d : List Entry) (e : Entry) (r : List Entry) → d ≡ d ++ e ∷ r → ⊥
 unlike d e r q = omega (arith, ap length q, length-append d (e ∷ r))
@@ -133,40 +146,39 @@ cancel (x ∷ d) e f r q h = cancel d e f r q cc
 
 -- the entries of an accepted sheet begin with those done
 pub prefix : (room : ℕ) (s : List ℕ) (d : List Entry) (at : ℕ) (es : List Entry) (z : ℕ) → readRecords room s d at ≡ found es z → (r : List Entry) × (es ≡ d ++ r)
-unfolding readRecords andThen
+unfolding readRecords thenRead
 prefix zero s d at es z = go (ltb at (length s))
   where
     go : (b : Bool) → pick b (refused 24 at) (found d at) ≡ found es z → (r : List Entry) × (es ≡ d ++ r)
     go true q = absurd (never 24 at es z q)
     go false q = ([], let h : d ≡ es = cc in sym h ∙ sym (append-nil d))
-prefix (suc room) s d at es z = go (prefix room s) (ltb at (length s)) (readRecord (map stageOf d) s at)
+prefix (suc room) s d at es z = go (prefix room s) (ltb at (length s)) (readRecord (map entryStage d) s at)
   where
     go : ((d : List Entry) (at : ℕ) (es : List Entry) (z : ℕ) → readRecords room s d at ≡ found es z → (r : List Entry) × (es ≡ d ++ r))
-        → (b : Bool) (x : Read Entry) → pick b (next room s d x) (found d at) ≡ found es z → (r : List Entry) × (es ≡ d ++ r)
+        → (b : Bool) (x : Read Entry) → pick b (afterRecord room s d x) (found d at) ≡ found es z → (r : List Entry) × (es ≡ d ++ r)
     go ih true (found e n) q = let w = ih (d ++ e ∷ []) n es z q in (e ∷ w .0, w .1 ∙ append-assoc d (e ∷ []) (w .0))
     go ih true (refused k p) q = absurd (never k p es z q)
     go ih false x q = ([], let h : d ≡ es = cc in sym h ∙ sym (append-nil d))
 
 -- the next entry of an accepted sheet stands in the next record
 pub one-more : (room : ℕ) (s : List ℕ) (d : List Entry) (at : ℕ) (e : Entry) (r : List Entry) (z : ℕ) → readRecords room s d at ≡ found (d ++ e ∷ r) z
-    → (n : ℕ) × (readRecord (map stageOf d) s at ≡ found e n) × (readRecords (room - 1) s (d ++ e ∷ []) n ≡ found ((d ++ e ∷ []) ++ r) z)
-unfolding readRecords andThen
+    → (n : ℕ) × (readRecord (map entryStage d) s at ≡ found e n) × (readRecords (room - 1) s (d ++ e ∷ []) n ≡ found ((d ++ e ∷ []) ++ r) z)
+unfolding readRecords thenRead
 one-more zero s d at e r z = go (ltb at (length s))
   where
     go : (b : Bool) → pick b (refused 24 at) (found d at) ≡ found (d ++ e ∷ r) z
-        → (n : ℕ) × (readRecord (map stageOf d) s at ≡ found e n) × (readRecords (zero - 1) s (d ++ e ∷ []) n ≡ found ((d ++ e ∷ []) ++ r) z)
+        → (n : ℕ) × (readRecord (map entryStage d) s at ≡ found e n) × (readRecords (zero - 1) s (d ++ e ∷ []) n ≡ found ((d ++ e ∷ []) ++ r) z)
     go true q = absurd (never 24 at (d ++ e ∷ r) z q)
     go false q = absurd (unlike d e r cc)
-one-more (suc room) s d at e r z = go (ltb at (length s)) (readRecord (map stageOf d) s at) refl
+one-more (suc room) s d at e r z = go (ltb at (length s)) (readRecord (map entryStage d) s at) refl
   where
-    go : (b : Bool) (x : Read Entry) → readRecord (map stageOf d) s at ≡ x → pick b (next room s d x) (found d at) ≡ found (d ++ e ∷ r) z
-        → (n : ℕ) × (readRecord (map stageOf d) s at ≡ found e n) × (readRecords (suc room - 1) s (d ++ e ∷ []) n ≡ found ((d ++ e ∷ []) ++ r) z)
+    go : (b : Bool) (x : Read Entry) → readRecord (map entryStage d) s at ≡ x → pick b (afterRecord room s d x) (found d at) ≡ found (d ++ e ∷ r) z
+        → (n : ℕ) × (readRecord (map entryStage d) s at ≡ found e n) × (readRecords (suc room - 1) s (d ++ e ∷ []) n ≡ found ((d ++ e ∷ []) ++ r) z)
     go true (found f n) h q =
         let w = prefix room s (d ++ f ∷ []) n (d ++ e ∷ r) z q in
-        let c = cancel d e f r (w .0) (w .1 ∙ append-assoc d (f ∷ []) (w .0)) in (
-          n,
-          h ∙ ap (λ (y : Entry). found y n) (sym (c .0)),
-          ap (λ (k : ℕ). readRecords k s (d ++ e ∷ []) n) (sub-one (suc room)) ∙ ap (λ (y : Entry). readRecords room s (d ++ y ∷ []) n) (c .0) ∙ q ∙ ap (λ (y : List Entry). found y z) (sym (append-assoc d (e ∷ []) r)),
-        )
+        let c = cancel d e f r (w .0) (w .1 ∙ append-assoc d (f ∷ []) (w .0)) in
+        let less : readRecords (suc room - 1) s (d ++ e ∷ []) n ≡ readRecords room s (d ++ e ∷ []) n = ap (λ (k : ℕ). readRecords k s (d ++ e ∷ []) n) (sub-one (suc room)) in
+        let same : readRecords room s (d ++ e ∷ []) n ≡ found (d ++ e ∷ r) z = ap (λ (y : Entry). readRecords room s (d ++ y ∷ []) n) (c .0) ∙ q in
+        (n, h ∙ ap (λ (y : Entry). found y n) (sym (c .0)), less ∙ same ∙ ap (λ (y : List Entry). found y z) (sym (append-assoc d (e ∷ []) r)))
     go true (refused k p) h q = absurd (never k p (d ++ e ∷ r) z q)
     go false x h q = absurd (unlike d e r cc)

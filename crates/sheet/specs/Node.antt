@@ -4,11 +4,13 @@ use mathlib.Core.List.{List, [], _∷_, _++_}
 use mathlib.Core.Bool.{Bool, true, false, _&&_, _||_, not}
 use lib.ListN.{length, getD, replicate}
 use lib.Dec.{ltb, leb, eqb}
-use Rattle.scalar.specs.Pattern.{pick, properOf, keptOf}
-use Rattle.shape.specs.declared.Instance.{Instance}
-use Rattle.shape.specs.Operand.{shapeOk}
+use Rattle.types.specs.Types.{concreteOf}
+use Rattle.value.specs.Pattern.{pick, properOf, keptOf}
+use Rattle.operand.specs.declared.Instance.{Instance}
+use Rattle.operand.specs.Operand.{shapeOk}
 use Rattle.sheet.specs.declared.Literal.{Literal}
-use Rattle.sheet.specs.Read.{Read, found, refused, need, andThen, made, there, cut}
+use Rattle.sheet.specs.declared.literals.LiteralHead.{LiteralHead}
+use Rattle.sheet.specs.Read.{Read, found, refused, must, thenRead, readAs, there, cut}
 use Rattle.sheet.specs.Tree.{Expr, literal, reference, unary, binary, names}
 
 -- k bytes from a place on, low byte first
@@ -26,46 +28,61 @@ unfoldable pub components : ℕ → ℕ → List ℕ → ℕ → List ℕ
 components ty zero b at = []
 components ty (suc n) b at = keptOf ty (leWord 8 b at) ∷ components ty n b (at + 8)
 
+-- a literal's type, columns and rows, and how many components it has
+abbrev pub literalHead : List ℕ → ℕ → LiteralHead
+literalHead b at = record { ty = getD b (at + 1) 0; cols = getD b (at + 2) 0; rows = getD b (at + 3) 0 }
+
+abbrev pub literalCount : List ℕ → ℕ → ℕ
+literalCount b at = getD b (at + 2) 0 * getD b (at + 3) 0
+
+-- the place after them
+abbrev pub literalEnd : List ℕ → ℕ → ℕ
+literalEnd b at = at + 4 + 8 * literalCount b at
+
 -- the value of a literal: its n components, unused ones 0
 abbrev pub valueAt : ℕ → ℕ → ℕ → ℕ → List ℕ → ℕ → Instance
 valueAt ty cols rows n b at = record { ty = ty; cols = cols; rows = rows; comps = components ty n b at ++ replicate (16 - n) 0 }
 
--- a literal's type and shape; a setting's is a scalar of type 0, 3, 4, 5 or 6
-abbrev pub literalOk : Bool → ℕ → ℕ → ℕ → Bool
-literalOk setting ty cols rows = shapeOk ty cols rows && (not setting || ((eqb ty 0 || leb 3 ty) && eqb cols 1 && eqb rows 1))
+-- a literal's type and shape; a setting's is a scalar of type 0, 3, 4, 5 or 6: a concrete one
+abbrev pub literalOk : Bool → LiteralHead → Bool
+literalOk setting h = shapeOk (h .ty) (h .cols) (h .rows) && (not setting || (concreteOf (h .ty) && eqb (h .cols) 1 && eqb (h .rows) 1))
+
+-- the n components of a literal, after its head: all there, and patterns of its type
+abbrev pub readComponents : LiteralHead → ℕ → List ℕ → ℕ → Read Instance
+readComponents h n b at =
+    must (there b (at + 4) (8 * n)) (cut b)
+    (must (allProper (h .ty) n b (at + 4)) (refused 26 at)
+    (found (valueAt (h .ty) (h .cols) (h .rows) n b (at + 4)) (at + 4 + 8 * n)))
 
 -- 01, type, columns, rows, components: type and shape are judged before the components are looked for
 unfoldable pub readLiteral : Bool → List ℕ → ℕ → Read Instance
 readLiteral setting b at =
-    need (there b at 4) (cut b)
-    (need (literalOk setting (getD b (at + 1) 0) (getD b (at + 2) 0) (getD b (at + 3) 0)) (refused 26 at)
-    (need (there b (at + 4) (8 * (getD b (at + 2) 0 * getD b (at + 3) 0))) (cut b)
-    (need (allProper (getD b (at + 1) 0) (getD b (at + 2) 0 * getD b (at + 3) 0) b (at + 4)) (refused 26 at)
-    (found (valueAt (getD b (at + 1) 0) (getD b (at + 2) 0) (getD b (at + 3) 0) (getD b (at + 2) 0 * getD b (at + 3) 0) b (at + 4))
-    (at + 4 + 8 * (getD b (at + 2) 0 * getD b (at + 3) 0))))))
+    must (there b at 4) (cut b)
+    (must (literalOk setting (literalHead b at)) (refused 26 at)
+    (readComponents (literalHead b at) (literalCount b at) b at))
 
 -- 02, number of an earlier entry, whose stage is not above this one's
 unfoldable pub readReference : List ℕ → ℕ → List ℕ → ℕ → Read Expr
 readReference stages own b at =
-    need (there b at 2) (cut b)
-    (need (ltb (getD b (at + 1) 0) (length stages)) (refused 27 at)
-    (need (leb (getD stages (getD b (at + 1) 0) 0) own) (refused 23 at)
+    must (there b at 2) (cut b)
+    (must (ltb (getD b (at + 1) 0) (length stages)) (refused 27 at)
+    (must (leb (getD stages (getD b (at + 1) 0) 0) own) (refused 23 at)
     (found (reference (getD b (at + 1) 0)) (at + 2))))
 
 -- operators 1 to 3 stand before one operand, 1 to 18 before two
-abbrev pub known : Bool → ℕ → Bool
-known two op = leb 1 op && (leb op 3 || (two && leb op 18))
+abbrev pub operatorKnown : Bool → ℕ → Bool
+operatorKnown two op = leb 1 op && (leb op 3 || (two && leb op 18))
 
 -- the operands of an operator node, left before right; below reads a node
 unfoldable pub operands : Bool → ℕ → ℕ → (ℕ → Read Expr) → ℕ → Read Expr
-operands false place op below at = made (unary place op) (below at)
-operands true place op below at = andThen (below at) (λ l m. made (binary place op l) (below m))
+operands false place op below at = readAs (unary place op) (below at)
+operands true place op below at = thenRead (below at) (λ l m. readAs (binary place op l) (below m))
 
 -- 03 or 04, operator, one or two nodes
 unfoldable pub readOperator : Bool → (ℕ → Read Expr) → List ℕ → ℕ → Read Expr
 readOperator two below b at =
-    need (there b at 2) (cut b)
-    (need (known two (getD b (at + 1) 0)) (refused 25 at)
+    must (there b at 2) (cut b)
+    (must (operatorKnown two (getD b (at + 1) 0)) (refused 25 at)
     (operands two at (getD b (at + 1) 0) below (at + 2)))
 
 -- what a node's tag byte says that it is
@@ -79,7 +96,7 @@ unfoldable pub tagOf : ℕ → Tag
 tagOf t = pick (eqb t 1) isLiteral (pick (eqb t 2) isReference (pick (eqb t 3) (isOperator false) (pick (eqb t 4) (isOperator true) unknown)))
 
 unfoldable pub onTag : Tag → (ℕ → Read Expr) → List ℕ → ℕ → List ℕ → ℕ → Read Expr
-onTag isLiteral below stages own b at = made literal (readLiteral false b at)
+onTag isLiteral below stages own b at = readAs literal (readLiteral false b at)
 onTag isReference below stages own b at = readReference stages own b at
 onTag (isOperator two) below stages own b at = readOperator two below b at
 onTag unknown below stages own b at = refused 25 at
@@ -88,7 +105,7 @@ onTag unknown below stages own b at = refused 25 at
 unfoldable pub readNode : ℕ → List ℕ → ℕ → List ℕ → ℕ → Read Expr
 readNode zero stages own b at = refused 28 at
 readNode (suc levels) stages own b at =
-    need (there b at 1) (cut b)
+    must (there b at 1) (cut b)
     (onTag (tagOf (getD b at 0)) (readNode levels stages own b) stages own b at)
 
 -- the literal at a place and the place after it; zeros where none can be read

@@ -12,24 +12,24 @@ pub data Read (A : Type 0) : Type 0 where
   refused : ℕ → ℕ → Read A
 
 -- a check: the refusal where the test fails, else what follows
-unfoldable pub need : {A : Type 0} → Bool → A → A → A
-need true refusal then = then
-need false refusal then = refusal
+unfoldable pub must : {A : Type 0} → Bool → A → A → A
+must true refusal then = then
+must false refusal then = refusal
 
 -- what follows a thing that was read goes on from the place after it
-unfoldable pub andThen : {A B : Type 0} → Read A → (A → ℕ → Read B) → Read B
-andThen (found a n) next = next a n
-andThen (refused k p) next = refused k p
+unfoldable pub thenRead : {A B : Type 0} → Read A → (A → ℕ → Read B) → Read B
+thenRead (found a n) next = next a n
+thenRead (refused k p) next = refused k p
 
 -- the thing that was read, made into another
-unfoldable pub made : {A B : Type 0} → (A → B) → Read A → Read B
-made f (found a n) = found (f a) n
-made f (refused k p) = refused k p
+unfoldable pub readAs : {A B : Type 0} → (A → B) → Read A → Read B
+readAs f (found a n) = found (f a) n
+readAs f (refused k p) = refused k p
 
 -- places counted from the first byte of a part that starts here
-unfoldable pub moved : {A : Type 0} → ℕ → Read A → Read A
-moved start (found a n) = found a (start + n)
-moved start (refused k p) = refused k (start + p)
+unfoldable pub placedFrom : {A : Type 0} → ℕ → Read A → Read A
+placedFrom start (found a n) = found a (start + n)
+placedFrom start (refused k p) = refused k (start + p)
 
 -- so many bytes are there from a place on
 abbrev pub there : List ℕ → ℕ → ℕ → Bool

@@ -1,7 +1,7 @@
 -- An expression as a tree, an entry, and the entries that they name.
 use Prim.Native.Nat.{ℕ}
 use mathlib.Core.List.{List, [], _∷_, _++_}
-use Rattle.shape.specs.declared.Instance.{Instance}
+use Rattle.operand.specs.declared.Instance.{Instance}
 
 -- an operator node has its place in the body, its operator and its operands
 pub data Expr : Type 0 where
@@ -16,9 +16,9 @@ pub data Entry : Type 0 where
   expression : ℕ → Expr → Entry
 
 -- the stage that an entry counts as: a setting as 1
-unfoldable pub stageOf : Entry → ℕ
-stageOf (setting v) = 1
-stageOf (expression stage t) = stage
+unfoldable pub entryStage : Entry → ℕ
+entryStage (setting v) = 1
+entryStage (expression stage t) = stage
 
 -- the entries that an expression refers to, from left to right
 unfoldable pub names : Expr → List ℕ

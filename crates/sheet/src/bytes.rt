@@ -5,7 +5,7 @@ ghost use lib.ListN.{length, getD};
 ghost use Rattle.sheet.specs.Node.{leWord};
 
 // How many bytes are left from a place on.
-pub(crate) fn left(b: &[u8], at: usize) -> usize
+pub(crate) fn remaining(b: &[u8], at: usize) -> usize
     ensures { λ r. ⌜ r ≡ length (now (b .entry)) - at ⌝ }
 {
     if b.len() < at {
@@ -15,7 +15,7 @@ pub(crate) fn left(b: &[u8], at: usize) -> usize
 }
 
 // A byte, as a number that sums can hold.
-fn byte(b: &[u8], i: usize) -> u64
+pub(crate) fn byte(b: &[u8], i: usize) -> u64
     requires { ⌜ i < length (now b) ⌝ }
     ensures { λ r. ⌜ (r ≡ getD (now (b .entry)) i 0) × (r < 256) ⌝ }
 {

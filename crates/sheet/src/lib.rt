@@ -8,10 +8,10 @@ mod names; // names.rt: the entries that a body names
 
 pub use literals::literal_at;
 pub use names::names_marked;
+use operand::Instance;
 pub use record::body;
 pub use record::read_head;
 use record::read_record;
-use shape::Instance;
 ghost use mathlib.Core.Path.{_≡_};
 ghost use Rattle.sheet.specs.Sheet.{readSheet, checkedOf};
 

@@ -1,16 +1,23 @@
 // A literal node: type, columns, rows and components.
 use crate::Literal;
 use crate::Seen;
-use crate::bytes::left;
+use crate::bytes::remaining;
 use crate::bytes::word_at;
-use shape::Instance;
+use operand::Instance;
 ghost use mathlib.Core.Path.{_≡_};
 ghost use mathlib.Core.Bool.{false};
 ghost use mathlib.Core.List.{_++_};
 ghost use Prim.Native.Nat.{_+_, _*_, _-_, _<_, _≤_};
 ghost use lib.ListN.{length, replicate};
 ghost use Rattle.sheet.specs.Read.{seenOf};
-ghost use Rattle.sheet.specs.Node.{allProper, components, literalOk, readLiteral, literalIn};
+ghost use Rattle.sheet.specs.Node.{literalHead, allProper, components, literalOk, readLiteral, literalIn};
+
+// The three bytes after a literal's tag: its type, columns and rows.
+pub(crate) struct LiteralHead {
+    ty: u8,
+    cols: u8,
+    rows: u8,
+}
 
 // How many components a shape has.
 pub(crate) fn area(cols: u8, rows: u8) -> usize
@@ -20,11 +27,23 @@ pub(crate) fn area(cols: u8, rows: u8) -> usize
 }
 
 // Whether a literal may have this type and shape; a setting's are fewer.
-fn literal_ok(setting: bool, ty: u8, cols: u8, rows: u8) -> bool
-    ensures { λ r. ⌜ r ≡ literalOk setting ty cols rows ⌝ }
+fn literal_ok(setting: bool, h: LiteralHead) -> bool
+    ensures { λ r. ⌜ r ≡ literalOk setting h ⌝ }
 {
-    shape::shape_ok(ty, cols, rows)
-        & (!setting | ((ty == 0) | (3 <= ty)) & (cols == 1) & (rows == 1))
+    operand::shape_ok(h.ty, h.cols, h.rows)
+        & (!setting | types::concrete(h.ty) & (h.cols == 1) & (h.rows == 1))
+}
+
+// The type, columns and rows of the literal at a place.
+fn literal_head(b: &[u8], at: usize) -> LiteralHead
+    requires { ⌜ at + 4 ≤ length (now b) ⌝ }
+    ensures { λ r. ⌜ r ≡ literalHead (now (b .entry)) at ⌝ }
+{
+    LiteralHead {
+        ty: b[at + 1],
+        cols: b[at + 2],
+        rows: b[at + 3],
+    }
 }
 
 // Whether the n components from a place on are all patterns of the type.
@@ -33,14 +52,14 @@ fn all_proper(b: &[u8], at: usize, n: usize, ty: u8) -> bool
     ensures { λ r. ⌜ r ≡ allProper ty n (now (b .entry)) at ⌝ }
 {
     let mut p = at;
-    let mut left = n;
-    while 0 < left {
+    let mut more = n;
+    while 0 < more {
         let w = word_at(b, p);
-        if !scalar::proper(ty, w) {
+        if !value::proper(ty, w) {
             return false;
         }
         p += 8;
-        left -= 1;
+        more -= 1;
     }
     true
 }
@@ -49,20 +68,18 @@ fn all_proper(b: &[u8], at: usize, n: usize, ty: u8) -> bool
 pub(crate) fn read_literal(b: &[u8], at: usize, setting: bool) -> Seen
     ensures { λ r. ⌜ r ≡ seenOf (readLiteral setting (now (b .entry)) at) ⌝ }
 {
-    if left(b, at) < 4 {
+    if remaining(b, at) < 4 {
         return Seen::Refused(22, b.len());
     }
-    let ty = b[at + 1];
-    let cols = b[at + 2];
-    let rows = b[at + 3];
-    if !literal_ok(setting, ty, cols, rows) {
+    let h = literal_head(b, at);
+    if !literal_ok(setting, h) {
         return Seen::Refused(26, at);
     }
-    let n = area(cols, rows);
-    if left(b, at + 4) < 8 * n {
+    let n = area(h.cols, h.rows);
+    if remaining(b, at + 4) < 8 * n {
         return Seen::Refused(22, b.len());
     }
-    if !all_proper(b, at + 4, n, ty) {
+    if !all_proper(b, at + 4, n, h.ty) {
         return Seen::Refused(26, at);
     }
     Seen::Good(at + 4 + 8 * n)
@@ -76,7 +93,7 @@ fn load(b: &[u8], at: usize, n: usize, ty: u8) -> [u64; 16]
     let mut out = [0u64; 16];
     let mut i: usize = 0;
     while i < n {
-        out[i] = scalar::kept(ty, word_at(b, at + 8 * i));
+        out[i] = value::kept(ty, word_at(b, at + 8 * i));
         i += 1;
     }
     out
@@ -97,15 +114,13 @@ pub fn literal_at(b: &[u8], at: usize) -> Literal
             next: 0,
         };
     };
-    let ty = b[at + 1];
-    let cols = b[at + 2];
-    let rows = b[at + 3];
-    let comps = load(b, at + 4, area(cols, rows), ty);
+    let h = literal_head(b, at);
+    let comps = load(b, at + 4, area(h.cols, h.rows), h.ty);
     Literal {
         value: Instance {
-            ty,
-            cols,
-            rows,
+            ty: h.ty,
+            cols: h.cols,
+            rows: h.rows,
             comps,
         },
         next,

@@ -4,13 +4,13 @@ use crate::literals::area;
 use crate::node::read_node;
 ghost use mathlib.Core.Path.{_≡_};
 ghost use mathlib.Core.Bool.{false};
-ghost use Prim.Native.Nat.{_+_, _*_, _<_, _≤_};
+ghost use Prim.Native.Nat.{_+_, _<_, _≤_};
 ghost use lib.Dec.{eqb};
 ghost use lib.ListN.{length, getD, replicate};
-ghost use Rattle.scalar.specs.Pattern.{pick};
+ghost use Rattle.value.specs.Pattern.{pick};
 ghost use Rattle.sheet.specs.declared.Seen.the-variants.{Good};
 ghost use Rattle.sheet.specs.Read.{seenOf};
-ghost use Rattle.sheet.specs.Node.{readNode, namesIn, anyMarked};
+ghost use Rattle.sheet.specs.Node.{literalEnd, readNode, namesIn, anyMarked};
 
 // Whether the node at a place is a reference to a marked entry.
 fn marked_at(b: &[u8], at: usize, marks: &[bool; 128]) -> bool
@@ -26,8 +26,8 @@ fn marked_at(b: &[u8], at: usize, marks: &[bool; 128]) -> bool
 
 // Where the next node in prefix order starts: after a literal's components, else after two bytes.
 fn after(b: &[u8], at: usize) -> usize
-    requires { ⌜ (at + 1 < length (now b)) × (getD (now b) at 0 ≡ 1 → at + 4 + 8 * (getD (now b) (at + 2) 0 * getD (now b) (at + 3) 0) ≤ length (now b)) ⌝ }
-    ensures { λ r. ⌜ r ≡ pick (eqb (getD (now (b .entry)) at 0) 1) (at + 4 + 8 * (getD (now (b .entry)) (at + 2) 0 * getD (now (b .entry)) (at + 3) 0)) (at + 2) ⌝ }
+    requires { ⌜ (at + 1 < length (now b)) × (getD (now b) at 0 ≡ 1 → literalEnd (now b) at ≤ length (now b)) ⌝ }
+    ensures { λ r. ⌜ r ≡ pick (eqb (getD (now (b .entry)) at 0) 1) (literalEnd (now (b .entry)) at) (at + 2) ⌝ }
 {
     if b[at] == 1 {
         return at + 4 + 8 * area(b[at + 2], b[at + 3]);

@@ -1,14 +1,14 @@
 // The nodes of a body: a node reads its operands, and they read their nodes.
 use crate::Seen;
-use crate::bytes::left;
+use crate::bytes::remaining;
 use crate::literals::read_literal;
 ghost use mathlib.Core.Path.{_≡_};
 ghost use Rattle.sheet.specs.Read.{seenOf};
-ghost use Rattle.sheet.specs.Node.{known, readReference, readOperator, readNode};
+ghost use Rattle.sheet.specs.Node.{operatorKnown, readReference, readOperator, readNode};
 
 // Whether an operator code is known, before one operand or two.
 fn known_operator(two: bool, op: u8) -> bool
-    ensures { λ r. ⌜ r ≡ known two op ⌝ }
+    ensures { λ r. ⌜ r ≡ operatorKnown two op ⌝ }
 {
     (1 <= op) & ((op <= 3) | two & (op <= 18))
 }
@@ -17,7 +17,7 @@ fn known_operator(two: bool, op: u8) -> bool
 fn read_reference(b: &[u8], stages: &[u8], own: u8, at: usize) -> Seen
     ensures { λ r. ⌜ r ≡ seenOf (readReference (now (stages .entry)) own (now (b .entry)) at) ⌝ }
 {
-    if left(b, at) < 2 {
+    if remaining(b, at) < 2 {
         return Seen::Refused(22, b.len());
     }
     let k = b[at + 1] as usize;
@@ -37,7 +37,7 @@ pub(crate) fn read_node(b: &[u8], stages: &[u8], own: u8, at: usize, levels: usi
     if levels == 0 {
         return Seen::Refused(28, at);
     }
-    if left(b, at) < 1 {
+    if remaining(b, at) < 1 {
         return Seen::Refused(22, b.len());
     }
     let tag = b[at];
@@ -54,7 +54,7 @@ pub(crate) fn read_node(b: &[u8], stages: &[u8], own: u8, at: usize, levels: usi
 fn read_operands(b: &[u8], stages: &[u8], own: u8, at: usize, levels: usize, two: bool) -> Seen
     ensures { λ r. ⌜ r ≡ seenOf (readOperator two (readNode levels (now (stages .entry)) own (now (b .entry))) (now (b .entry)) at) ⌝ }
 {
-    if left(b, at) < 2 {
+    if remaining(b, at) < 2 {
         return Seen::Refused(22, b.len());
     }
     if !known_operator(two, b[at + 1]) {

@@ -2,34 +2,42 @@
 use crate::Head;
 use crate::Passed;
 use crate::Seen;
-use crate::bytes::left;
+use crate::bytes::byte;
+use crate::bytes::remaining;
 use crate::literals::read_literal;
 use crate::node::read_node;
 ghost use mathlib.Core.Path.{_≡_};
+ghost use Prim.Native.Nat.{_+_, _<_, _≤_};
+ghost use lib.ListN.{length};
 ghost use lib.Dec.{eqb};
-ghost use Rattle.scalar.specs.Pattern.{pick};
+ghost use Rattle.value.specs.Pattern.{pick};
 ghost use Rattle.sheet.specs.Read.{seenOf};
-ghost use Rattle.sheet.specs.Record.{readHead, partOf, readSetting, readExpression, readBody, readRecord, passedOf};
+ghost use Rattle.sheet.specs.Record.{bodyLen, readHead, bodyAt, readSetting, readExpression, readBody, readRecord, passedOf};
+
+// The length of the body of the record at a place.
+fn body_len(s: &[u8], at: usize) -> usize
+    requires { ⌜ at + 5 ≤ length (now s) ⌝ }
+    ensures { λ r. ⌜ (r ≡ bodyLen (now (s .entry)) at) × (r < 65536) ⌝ }
+{
+    (byte(s, at + 3) + 256 * byte(s, at + 4)) as usize
+}
 
 // Judges the five bytes before a body, and that the body is there: its stage byte, where it starts and its length.
 pub fn read_head(s: &[u8], at: usize) -> Head
     ensures { λ r. ⌜ r ≡ readHead (now (s .entry)) at ⌝ }
 {
-    if left(s, at) < 5 {
+    if remaining(s, at) < 5 {
         return Head::Refused(22, s.len());
     }
-    if s[at] != 0xD5 {
-        return Head::Refused(21, at);
-    }
-    if s[at + 1] != 0x17 {
+    if !((s[at] == 0xD5) & (s[at + 1] == 0x17)) {
         return Head::Refused(21, at);
     }
     let stage = s[at + 2];
     if 3 < stage {
         return Head::Refused(23, at + 2);
     }
-    let len = (s[at + 3] as usize) + 256 * (s[at + 4] as usize);
-    if left(s, at + 5) < len {
+    let len = body_len(s, at);
+    if remaining(s, at + 5) < len {
         return Head::Refused(22, s.len());
     }
     Head::Record {
@@ -41,7 +49,7 @@ pub fn read_head(s: &[u8], at: usize) -> Head
 
 // A record's body as a part of the sheet; an empty part where start and length do not lie in the sheet.
 pub fn body(s: &[u8], start: usize, len: usize) -> &[u8]
-    ensures { λ r. ⌜ now r ≡ partOf (now (s .entry)) start len ⌝ }
+    ensures { λ r. ⌜ now r ≡ bodyAt (now (s .entry)) start len ⌝ }
 {
     if s.len() < len {
         return &s[..0];

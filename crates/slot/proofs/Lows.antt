@@ -32,10 +32,13 @@ pub whole-part4 : (l : List ℕ) (a : ℕ) → a + 4 ≤ length l
     → whole (part l a 4) ≡ getD l a 0 + 256 * (getD l (a + 1) 0 + 256 * (getD l (a + 2) 0 + 256 * getD l (a + 3) 0))
 unfolding whole part
 whole-part4 l a h =
-    rw (part-cons l a (a + 1) 3 h₁ (omega arith), part-cons l (a + 1) (a + 2) 2 (omega arith) (omega arith), part-cons l (a + 2) (a + 3) 1 (omega arith) (omega arith), part-cons l (a + 3) (a + 4) 0 (omega arith) (omega arith)) (omega arith)
-  where
-    h₁ : a < length l
-    h₁ = omega arith
+    omega (
+      arith,
+      ap whole (part-cons l a (a + 1) 3 (omega arith) (omega arith)),
+      ap whole (part-cons l (a + 1) (a + 2) 2 (omega arith) (omega arith)),
+      ap whole (part-cons l (a + 2) (a + 3) 1 (omega arith) (omega arith)),
+      ap whole (part-cons l (a + 3) (a + 4) 0 (omega arith) (omega arith)),
+    )
 
 pub whole-part8 : (l : List ℕ) (a : ℕ) → a + 8 ≤ length l → whole (part l a 8) ≡ whole (part l a 4) + 4294967296 * whole (part l (a + 4) 4)
 unfolding whole

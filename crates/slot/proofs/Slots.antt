@@ -9,8 +9,8 @@ use native.Mathlib.Nat.{le-antisymm}
 use lib.ListN.{length, take, drop, getD, set, replicate, length-append}
 use lib.Seq.{take-at, drop-at, set-at, ext-getD, getD-drop}
 use borrow.Author.Tests.{lt-ltb, le-ltb}
-use Rattle.shape.specs.declared.Outcome.{Outcome}
-use Rattle.shape.specs.Meaning.{refusedWith}
+use Rattle.operand.specs.declared.Outcome.{Outcome}
+use Rattle.operand.specs.Outcome.{refusedWith}
 use Rattle.slot.specs.Bytes.{lows, whole, part, patch}
 use Rattle.slot.specs.Slot.{eights, numbers, bytesOf, saidBy, slot, put}
 use Rattle.slot.proofs.Parts.{le-or-lt, length-patch, at-part, part-patch, part-patch-before, part-patch-after, patch-next, patch-all, stores4, lent-back}
@@ -75,7 +75,9 @@ filled-all xs b a i h k e = e ∙ ap (λ (j : ℕ). filled j b a) (le-antisymm h
 numbers-eights : (h cs : List ℕ) (a : ℕ) → length h ≡ a → ((i : ℕ) → getD cs i 0 < 256 ^ 8) → numbers (length cs) (h ++ eights (length cs) cs) a ≡ cs
 unfolding numbers eights part
 numbers-eights h [] a e g = refl
-numbers-eights h (x ∷ cs) a e g = rw (first, rest (numbers-eights (h ++ lows 8 x) cs (a + 8) (length-append h (lows 8 x) ∙ (let q : length h + length (lows 8 x) ≡ a + 8 = omega (arith, lows-long 8 x) in q)) (λ i. g (suc i))))
+numbers-eights h (x ∷ cs) a e g =
+    let q : length (h ++ lows 8 x) ≡ a + 8 = omega (arith, length-append h (lows 8 x), lows-long 8 x) in
+    rw (first, rest (numbers-eights (h ++ lows 8 x) cs (a + 8) q (λ i. g (suc i))))
   where
     first : whole (part (h ++ (lows 8 x ++ eights (length cs) cs)) a 8) ≡ x
     first =
@@ -158,12 +160,12 @@ module _ (l : List ℕ) (k : ℕ) (b : List ℕ) (wide : length b ≡ 136) where
       (λ (h : length l / 136 ≤ k). ap (λ (t : List ℕ). slot t j) (put-out l k b h))
       (λ (h : k < length l / 136). ⊎-elim
       (λ (i : length l / 136 ≤ j). slot-out (put l k b) j (rw put-long i) ∙ sym (slot-out l j i))
-      (λ (i : j < length l / 136). slot-in (put l k b) j (rw put-long i) ∙ ap (λ (t : List ℕ). part t (136 * j) 136) (put-in l k b h) ∙ apart h i ∙ sym (slot-in l j i))
+      (λ (i : j < length l / 136). slot-in (put l k b) j (rw put-long i) ∙ ap (λ (t : List ℕ). part t (136 * j) 136) (put-in l k b h) ∙ other-part h i ∙ sym (slot-in l j i))
       (le-or-lt (length l / 136) j))
       (le-or-lt (length l / 136) k)
     where
-      apart : k < length l / 136 → j < length l / 136 → part (patch l (136 * k) b) (136 * j) 136 ≡ part l (136 * j) 136
-      apart h i =
+      other-part : k < length l / 136 → j < length l / 136 → part (patch l (136 * k) b) (136 * j) 136 ≡ part l (136 * j) 136
+      other-part h i =
           ⊎-elim
           (λ (m : suc j ≤ k). part-patch-before l (136 * k) b (omega arith) (136 * j) 136 (omega arith))
           (λ (m : k < suc j). part-patch-after l (136 * k) b (omega arith) (136 * j) 136 (omega arith) (omega arith))
@@ -198,5 +200,6 @@ said-lent l k e o h q p =
     p ∙ ap (λ (n : ℕ). saidBy (take n (drop (136 * k) l))) d ∙ ap saidBy (sym (slot-in l k h))
 
 -- a slot that is lent, written
-pub put-lent : (l : List ℕ) (k e : ℕ) (b : List ℕ) → k < length l / 136 → e ≡ 136 * k + 136 → length b ≡ 136 → take (136 * k) l ++ (b ++ drop (e - 136 * k) (drop (136 * k) l)) ≡ put l k b
+pub put-lent : (l : List ℕ) (k e : ℕ) (b : List ℕ) → k < length l / 136 → e ≡ 136 * k + 136 → length b ≡ 136
+    → take (136 * k) l ++ (b ++ drop (e - 136 * k) (drop (136 * k) l)) ≡ put l k b
 put-lent l k e b h q wide = lent-back l (136 * k) (e - 136 * k) b (omega arith) ∙ sym (put-in l k b h)

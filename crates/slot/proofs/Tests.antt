@@ -7,11 +7,11 @@ use native.Mathlib.Numerals.{add-one}
 use lib.Dec.{eqb, leb}
 use lib.ListN.{getD}
 use borrow.Author.Tests.{lt-ltb, le-ltb}
-use Rattle.scalar.specs.Pattern.{properOf, keptOf}
-use Rattle.shape.specs.declared.Instance.{Instance}
-use Rattle.shape.specs.declared.Outcome.{Outcome}
-use Rattle.shape.specs.Operand.{shapeOk}
-use Rattle.shape.specs.Meaning.{refusedWith}
+use Rattle.value.specs.Pattern.{properOf, keptOf}
+use Rattle.operand.specs.declared.Instance.{Instance}
+use Rattle.operand.specs.declared.Outcome.{Outcome}
+use Rattle.operand.specs.Operand.{shapeOk}
+use Rattle.operand.specs.Outcome.{refusedWith}
 use Rattle.slot.specs.Slot.{saidBy, slot, each, componentFormed, componentsFormed, valueFormed, blank, detailFormed, formed, wellFormed, referenceTo}
 
 pub each-more : (p : ℕ → Bool) (i : ℕ) (a b : Bool) → a ≡ each p i → b ≡ p i → (a && b) ≡ each p (i + 1)

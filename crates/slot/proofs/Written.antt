@@ -13,15 +13,16 @@ use lib.ListN.{length, drop, getD, length-append}
 use lib.Pow.{mod-mod-pow}
 use lib.Seq.{take-at, drop-at, getD-drop}
 use borrow.Author.Tests.{ltb-true, ltb-false, lt-ltb, le-leb, lt-leb, eqb-true, eqb-false, eq-eqb}
-use Rattle.scalar.specs.Pattern.{pick, properOf, keptOf}
-use Rattle.scalar.proofs.Promises.{Fine}
-use Rattle.shape.specs.declared.Instance.{Instance}
-use Rattle.shape.specs.declared.Outcome.{Outcome}
-use Rattle.shape.specs.Operand.{shapeOk, shapeOf, upTo, every, partOf, goodOf}
-use Rattle.shape.specs.Meaning.{refusedWith, valueOf}
-use Rattle.shape.proofs.Places.{both, one-of, shape-small, count-small}
-use Rattle.shape.proofs.Traverse.{every-more}
-use Rattle.shape.proofs.Answers.{Answers}
+use Rattle.types.specs.Types.{knownOf, widthOf}
+use Rattle.value.specs.Pattern.{pick, properOf, keptOf}
+use Rattle.operand.proofs.Answers.{Fine, Answers}
+use Rattle.operand.specs.declared.Instance.{Instance}
+use Rattle.operand.specs.declared.Outcome.{Outcome}
+use Rattle.operand.specs.Operand.{shapeOk, shapeOf, upTo, every, componentAt, operandFormed}
+use Rattle.operand.specs.Outcome.{refusedWith, valueOf}
+use Rattle.operand.proofs.Tests.{both, one-of}
+use Rattle.operand.proofs.Shapes.{shape-small, count-small}
+use Rattle.operand.proofs.Every.{every-more}
 use Rattle.slot.specs.Bytes.{lows, whole, part}
 use Rattle.slot.specs.Slot.{eights, numbers, bytesOf, saidBy, slot, each, componentFormed, componentsFormed, valueFormed, blank, detailFormed, formed, wellFormed, referenceTo}
 use Rattle.slot.proofs.Lows.{lows-long}
@@ -81,12 +82,12 @@ unfolding valueFormed
 value-kept v h used rest = rw (h, comps-formed (v .ty) (v .cols * v .rows) (v .comps) used rest)
 
 -- a well-formed value is a well-formed operand
-value-good : (v : Instance) → valueFormed v ≡ true → goodOf v ≡ true
-unfolding valueFormed componentsFormed componentFormed goodOf
+value-good : (v : Instance) → valueFormed v ≡ true → operandFormed v ≡ true
+unfolding valueFormed componentsFormed componentFormed operandFormed
 value-good v e =
     let h = both (shapeOk (v .ty) (v .cols) (v .rows)) _ e in
     let few : v .cols * v .rows ≤ 16 = count-small (shapeOf v) (shape-small (v .ty) (v .cols) (v .rows) (h .0)) in
-    rw (h .0) (every-all (properOf (v .ty)) (partOf (v .comps)) (v .cols * v .rows) (λ i l. used i l (each-at _ 16 (h .1) i (omega arith))))
+    rw (h .0) (every-all (properOf (v .ty)) (componentAt (v .comps)) (v .cols * v .rows) (λ i l. used i l (each-at _ 16 (h .1) i (omega arith))))
   where
     used : (i : ℕ) → i < v .cols * v .rows → componentFormed (v .ty) (v .cols * v .rows) (v .comps) i ≡ true → properOf (v .ty) (getD (v .comps) i 0) ≡ true
     used i l q = both (properOf (v .ty) (getD (v .comps) i 0)) _ (rw (lt-ltb i (v .cols * v .rows) l) at q) .0
@@ -115,12 +116,7 @@ numbers-cut (suc n) h xs a e (suc i) q =
 -- a proper pattern stays proper
 proper-cut : (ty b : ℕ) → properOf ty b ≡ true → properOf ty (b % 256 ^ 8) ≡ true
 proper-cut ty b =
-    or-both
-    (or-both (or-keep (leb 1 ty && leb ty 2) (and-keep (eqb ty 0) (below 2))) (and-keep (leb 3 ty && leb ty 5) (below (2 ^ 32))))
-    (and-keep (eqb ty 6) (below (2 ^ 16)))
-  where
-    below : (m : ℕ) → ltb b m ≡ true → ltb (b % 256 ^ 8) m ≡ true
-    below m e = lt-ltb (b % 256 ^ 8) m (omega (arith, ltb-true b m e))
+    and-keep (knownOf ty) (λ e. lt-ltb (b % 256 ^ 8) (2 ^ widthOf ty) (omega (arith, ltb-true b (2 ^ widthOf ty) e)))
 
 -- whether a pattern is a NaN is told by its low bits
 nan-cut : (j k top c b : ℕ) → c % 2 ^ (j + k) ≡ c → pick (ltb top (b % 2 ^ k)) c b ≡ b
@@ -218,7 +214,7 @@ reference-formed l k h = go (eqb (saidBy (slot l k) .status) 0) (formed (saidBy 
     go false b e = from-entry
 
 -- the value of a well-formed outcome of status 0 is a well-formed operand
-pub formed-good : (o : Outcome) → formed o ≡ true → eqb (o .status) 0 ≡ true → goodOf (o .value) ≡ true
+pub formed-good : (o : Outcome) → formed o ≡ true → eqb (o .status) 0 ≡ true → operandFormed (o .value) ≡ true
 unfolding formed
 formed-good o e q =
     let z : leb 1 (o .status) ≡ false = lt-leb 1 (o .status) (omega (arith, eqb-true (o .status) 0 q)) in

@@ -4,11 +4,11 @@ use mathlib.Core.Bool.{Bool, true, _&&_, _||_}
 use Prim.Native.Nat.{ℕ, zero, suc, _+_, _*_, _/_}
 use lib.Dec.{eqb, leb, ltb}
 use lib.ListN.{length, drop, getD}
-use Rattle.scalar.specs.Pattern.{pick, properOf, keptOf}
-use Rattle.shape.specs.declared.Instance.{Instance}
-use Rattle.shape.specs.declared.Outcome.{Outcome}
-use Rattle.shape.specs.Operand.{shapeOk}
-use Rattle.shape.specs.Meaning.{refusedWith}
+use Rattle.value.specs.Pattern.{pick, properOf, keptOf}
+use Rattle.operand.specs.declared.Instance.{Instance}
+use Rattle.operand.specs.declared.Outcome.{Outcome}
+use Rattle.operand.specs.Operand.{shapeOk}
+use Rattle.operand.specs.Outcome.{refusedWith}
 use Rattle.slot.specs.Bytes.{lows, whole, part, patch}
 
 -- the first n numbers as 8 bytes each

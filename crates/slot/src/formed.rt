@@ -1,6 +1,6 @@
 // Which slots are well formed.
-use shape::Instance;
-use shape::Outcome;
+use operand::Instance;
+use operand::Outcome;
 ghost use mathlib.Core.Path.{_≡_};
 ghost use Prim.Native.Nat.{_*_, _<_};
 ghost use Rattle.slot.specs.Slot.{componentFormed, componentsFormed, valueFormed, blank, detailFormed, formed};
@@ -19,7 +19,7 @@ fn component_formed(ty: u8, n: usize, xs: [u64; 16], i: usize) -> bool
 {
     let x = xs[i];
     if i < n {
-        return scalar::proper(ty, x) & (scalar::kept(ty, x) == x);
+        return value::proper(ty, x) & (value::kept(ty, x) == x);
     }
     x == 0
 }
@@ -42,7 +42,7 @@ fn value_formed(v: Instance) -> bool
     ensures { λ r. ⌜ r ≡ valueFormed v ⌝ }
 {
     let xs = v.comps;
-    shape::shape_ok(v.ty, v.cols, v.rows) & components_formed(v.ty, area(v.cols, v.rows), xs)
+    operand::shape_ok(v.ty, v.cols, v.rows) & components_formed(v.ty, area(v.cols, v.rows), xs)
 }
 
 // Whether a value has type, columns, rows and components 0.

@@ -2,7 +2,7 @@
 mod formed;
 mod words;
 
-use shape::Outcome;
+use operand::Outcome;
 ghost use mathlib.Core.Path.{_≡_};
 ghost use lib.ListN.{length};
 ghost use Rattle.slot.specs.Slot.{bytesOf, saidBy, slot, put, wellFormed, referenceTo};
@@ -17,7 +17,7 @@ fn said_by(b: &[u8]) -> Outcome
     Outcome {
         status: b[0],
         detail,
-        value: shape::Instance {
+        value: operand::Instance {
             ty: b[1],
             cols: b[2],
             rows: b[3],
@@ -49,7 +49,7 @@ pub fn read(results: &[u8], k: usize) -> Outcome
         return Outcome {
             status: 0,
             detail: 0,
-            value: shape::Instance {
+            value: operand::Instance {
                 ty: 0,
                 cols: 0,
                 rows: 0,
@@ -89,5 +89,5 @@ pub fn reference(results: &[u8], entry: u8) -> Outcome
     if (o.status == 0) & formed::formed(o) {
         return o;
     }
-    shape::refused(11, entry as u32)
+    operand::refused(11, entry as u32)
 }

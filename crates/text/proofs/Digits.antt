@@ -1,5 +1,6 @@
 -- The digits that the library gives are those of the definition.
 use mathlib.Core.Path.{_≡_, ap, subst, _∙_}
+use mathlib.Core.Bool.{Bool, true, false}
 use mathlib.Core.Logic.{⊎-elim}
 use mathlib.Core.List.{List, [], _∷_, _++_}
 use Prim.Native.Nat.{ℕ, zero, suc, _+_, _-_, _*_, _/_, _%_, _^_, _≤_, _<_}
@@ -9,7 +10,7 @@ use lib.Dec.{lit<}
 use borrow.Author.Tests.{lt-ltb, le-ltb}
 use Rattle.io.specs.Digits.{digits, glyph, Fewest}
 use Rattle.slot.proofs.Parts.{le-or-lt}
-use Rattle.text.specs.Text.{Put, decimals, dec, hex}
+use Rattle.text.specs.Text.{Put, decimals, dec, hex, digitsOf}
 
 -- a digit below 10
 glyph-small : (d : ℕ) → d < 10 → glyph d ≡ 48 + d
@@ -56,9 +57,17 @@ pub hex-put : {l m s : List ℕ} {a b : ℕ} (x k : ℕ) → k ≡ 16 → s ≡ 
 unfolding hex
 hex-put {l} {m} {s} {a} {b} x k h e p = subst (λ (t : List ℕ). Put l m a b t) (e ∙ ap (λ (j : ℕ). digits 16 j x) h) p
 
+-- in the one base or the other
+module _ {l m : List ℕ} {a b : ℕ} (x : ℕ) (hexadecimal : Bool) where
+  pub in-hex : hexadecimal ≡ true → Put l m a b (32 ∷ hex x) → Put l m a b (32 ∷ digitsOf hexadecimal x)
+  in-hex e p = rw e p
+
+  pub in-decimal : hexadecimal ≡ false → Put l m a b (32 ∷ dec x) → Put l m a b (32 ∷ digitsOf hexadecimal x)
+  in-decimal e p = rw e p
+
 -- the fewest digits are no more than hold the number
-pub few : (b least n k m : ℕ) → zero < b → Fewest b least n k → least ≤ m → n < b ^ m → k ≤ m
-few b least n k m z w h f =
+pub digits-few : (b least n k m : ℕ) → zero < b → Fewest b least n k → least ≤ m → n < b ^ m → k ≤ m
+digits-few b least n k m z w h f =
     ⊎-elim (λ (g : k ≤ m). g)
     (λ (g : m < k).
     let most : b ^ m ≤ b ^ (k - 1) = pow-le-pow-right z (omega arith) in

@@ -1,4 +1,5 @@
 pub mod Pieces
 pub mod Digits
 pub mod Lists
+pub mod Impostors
 pub mod Single

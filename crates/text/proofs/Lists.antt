@@ -10,27 +10,25 @@ use native.Mathlib.Nat.{min-eq-left, min-eq-right}
 use lib.Dec.{eqb}
 use lib.ListN.{length, take, getD}
 use lib.Seq.{take-suc, take-all}
-use Rattle.shape.specs.declared.Outcome.{Outcome}
+use Rattle.operand.specs.declared.Outcome.{Outcome}
 use Rattle.slot.proofs.Parts.{le-or-lt}
 use Rattle.slot.specs.Slot.{slot, saidBy, wellFormed}
-use Rattle.text.specs.Text.{dec, hex, words, fields, shown, line, lines, mover, movers}
+use Rattle.text.specs.Text.{dec, spaced, words, fields, shown, line, lines, mover, movers}
 
--- a list's text, element by element
-module _ (f : ℕ → List ℕ) (g : List ℕ → List ℕ) (none : g [] ≡ []) (cons : (x : ℕ) (xs : List ℕ) → g (x ∷ xs) ≡ f x ++ g xs) where
-  joined : (xs ys : List ℕ) → g (xs ++ ys) ≡ g xs ++ g ys
-  joined [] ys = rw none
-  joined (x ∷ xs) ys = cons x (xs ++ ys) ∙ rw (joined xs ys, cons x xs, append-assoc)
+-- a row of numbers, one after another
+module _ (f : ℕ → List ℕ) where
+  spaced-joined : (xs ys : List ℕ) → spaced f (xs ++ ys) ≡ spaced f xs ++ spaced f ys
+  unfolding spaced
+  spaced-joined [] ys = refl
+  spaced-joined (x ∷ xs) ys = rw (spaced-joined xs ys, append-assoc)
 
-  one-more : (xs : List ℕ) (i : ℕ) → i < length xs → g (take (i + 1) xs) ≡ g (take i xs) ++ f (getD xs i 0)
-  one-more xs i h = rw (add-one i, take-suc xs i 0 h, joined (take i xs) (getD xs i 0 ∷ []), cons (getD xs i 0) [], none, append-nil)
+  pub spaced-more : (xs : List ℕ) (i : ℕ) → i < length xs → spaced f (take (i + 1) xs) ≡ spaced f (take i xs) ++ (32 ∷ f (getD xs i 0))
+  unfolding spaced
+  spaced-more xs i h = rw (add-one i, take-suc xs i 0 h, spaced-joined (take i xs) (getD xs i 0 ∷ [])) (ap (λ (t : List ℕ). spaced f (take i xs) ++ t) (append-nil (32 ∷ f (getD xs i 0))))
 
-pub words-more : (xs : List ℕ) (i : ℕ) → i < length xs → words (take (i + 1) xs) ≡ words (take i xs) ++ (32 ∷ hex (getD xs i 0))
-unfolding words
-words-more xs i h = one-more (λ x. 32 ∷ hex x) words refl (λ x ys. refl) xs i h
-
-pub fields-more : (xs : List ℕ) (i : ℕ) → i < length xs → fields (take (i + 1) xs) ≡ fields (take i xs) ++ (32 ∷ dec (getD xs i 0))
-unfolding fields
-fields-more xs i h = one-more (λ x. 32 ∷ dec x) fields refl (λ x ys. refl) xs i h
+  pub spaced-none : [] ≡ spaced f []
+  unfolding spaced
+  spaced-none = refl
 
 pub lines-more : (b : List ℕ) (n : ℕ) → lines b (n + 1) ≡ lines b n ++ line n (saidBy (slot b n)) (wellFormed (slot b n))
 unfolding lines
@@ -57,13 +55,13 @@ module _ (o : Outcome) (formed : Bool) where
 
 module _ (marks : List Bool) (own k : ℕ) where
   pub mover-some : (getD marks k false && not (eqb k own)) ≡ true → fields (mover marks own k) ≡ 32 ∷ dec k
-  unfolding mover fields
+  unfolding mover spaced
   mover-some t = rw t (append-nil (32 ∷ dec k))
 
   pub mover-none : (getD marks k false && not (eqb k own)) ≡ false → fields (mover marks own k) ≡ []
-  unfolding mover fields
+  unfolding mover spaced
   mover-none f = rw f
 
   pub movers-more : fields (movers marks own (k + 1)) ≡ fields (movers marks own k) ++ fields (mover marks own k)
-  unfolding movers fields
-  movers-more = rw (add-one k) (joined (λ x. 32 ∷ dec x) fields refl (λ x ys. refl) (movers marks own k) (mover marks own k))
+  unfolding movers
+  movers-more = rw (add-one k) (spaced-joined dec (movers marks own k) (mover marks own k))

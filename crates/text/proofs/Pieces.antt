@@ -21,27 +21,27 @@ then {l} {m} {n} {x} {y} {a} {b} {c} p q h =
     }
 
 -- no text, and one byte
-pub nothing : (l : List ℕ) (a : ℕ) → Put l l a a []
-nothing l a = record { text = patch-none l a; next = omega arith }
+pub no-text : (l : List ℕ) (a : ℕ) → Put l l a a []
+no-text l a = record { text = patch-none l a; next = omega arith }
 
 set-patch : (l : List ℕ) (i v : ℕ) → i < length l → set l i v ≡ patch l i (v ∷ [])
 unfolding patch
 set-patch l i v h = set-split l i v h ∙ rw (add-one, append-assoc)
 
-pub one : (l : List ℕ) (a v : ℕ) → a < length l → Put l (set l a v) a (a + 1) (v ∷ [])
-one l a v h = record { text = set-patch l a v h; next = refl }
+pub one-byte : (l : List ℕ) (a v : ℕ) → a < length l → Put l (set l a v) a (a + 1) (v ∷ [])
+one-byte l a v h = record { text = set-patch l a v h; next = refl }
 
 -- a text changes no length
-pub long : {l m t : List ℕ} {a b : ℕ} → Put l m a b t → b ≤ length l → length m ≡ length l
-long {l} {m} {t} {a} p h = ap length (p .text) ∙ length-patch l a t (omega (arith, p .next))
+pub same-long : {l m t : List ℕ} {a b : ℕ} → Put l m a b t → b ≤ length l → length m ≡ length l
+same-long {l} {m} {t} {a} p h = ap length (p .text) ∙ length-patch l a t (omega (arith, p .next))
 
 -- one byte more of a text
 pub byte-more : (l m s : List ℕ) (a i : ℕ) → i < length s → Put l m a (a + i) (take i s) → a + length s ≤ length l → Put l (set m (a + i) (getD s i 0)) a (a + (i + 1)) (take (i + 1) s)
 byte-more l m s a i h p n =
-    let g : length m ≡ length l = long p (omega arith) in
+    let g : length m ≡ length l = same-long p (omega arith) in
     let e : a + i + 1 ≡ a + (i + 1) = omega arith in
-    rw (add-one i, take-suc s i 0 h, ← add-one i, ← e) (then p (one m (a + i) (getD s i 0) (omega arith)) (omega arith))
+    rw (add-one i, take-suc s i 0 h, ← add-one i, ← e) (then p (one-byte m (a + i) (getD s i 0) (omega arith)) (omega arith))
 
 -- a place within a buffer counts the bytes before it
-pub counted : (r : ℕ) (l : List ℕ) → r ≤ length l → Counts r l
-counted r l h = (h, sym (length-take-le r l h))
+pub counts-text : (r : ℕ) (l : List ℕ) → r ≤ length l → Counts r l
+counts-text r l h = (h, sym (length-take-le r l h))

@@ -1,12 +1,12 @@
 -- What a listing says (01, The sheet: the two listings of the example), as bytes.
 use mathlib.Core.Path.{_≡_}
-use mathlib.Core.Bool.{Bool, false, cond, not, _&&_}
+use mathlib.Core.Bool.{Bool, true, false, cond, not, _&&_}
 use mathlib.Core.List.{List, [], _∷_, _++_}
 use Prim.Native.Nat.{ℕ, zero, suc, _+_, _*_, _/_, _%_, min}
 use lib.Dec.{ltb, eqb}
 use lib.ListN.{length, take, getD}
 use Rattle.io.specs.Digits.{digits}
-use Rattle.shape.specs.declared.Outcome.{Outcome}
+use Rattle.operand.specs.declared.Outcome.{Outcome}
 use Rattle.slot.specs.Bytes.{patch}
 use Rattle.slot.specs.Slot.{slot, saidBy, wellFormed}
 
@@ -19,19 +19,26 @@ decimals (suc f) n = cond (ltb n 10) ((48 + n) ∷ []) (decimals f (n / 10) ++ (
 unfoldable pub dec : ℕ → List ℕ
 dec n = decimals 19 n
 
--- each number after a space, in decimal
-unfoldable pub fields : List ℕ → List ℕ
-fields [] = []
-fields (x ∷ xs) = (32 ∷ dec x) ++ fields xs
-
 -- the 16 hexadecimal digits of a number of 64 bits
 unfoldable pub hex : ℕ → List ℕ
 hex x = digits 16 16 x
 
--- each component after a space
-unfoldable pub words : List ℕ → List ℕ
-words [] = []
-words (x ∷ xs) = (32 ∷ hex x) ++ words xs
+-- the one or the other
+abbrev pub digitsOf : Bool → ℕ → List ℕ
+digitsOf true = hex
+digitsOf false = dec
+
+-- each number after a space
+unfoldable pub spaced : (ℕ → List ℕ) → List ℕ → List ℕ
+spaced f [] = []
+spaced f (x ∷ xs) = (32 ∷ f x) ++ spaced f xs
+
+-- numbers in decimal; components in hexadecimal digits
+abbrev pub fields : List ℕ → List ℕ
+fields = spaced dec
+
+abbrev pub words : List ℕ → List ℕ
+words = spaced hex
 
 -- the components in use, where a slot is well formed with status 0
 unfoldable pub shown : Outcome → Bool → List ℕ
@@ -56,8 +63,8 @@ unfoldable pub listing : List ℕ → List ℕ
 listing b = (115 ∷ 104 ∷ 101 ∷ 101 ∷ 116 ∷ 32 ∷ []) ++ dec (entries b) ++ (10 ∷ []) ++ lines b (entries b)
 
 -- "refused" and the number
-unfoldable pub refusal : ℕ → List ℕ
-refusal n = (114 ∷ 101 ∷ 102 ∷ 117 ∷ 115 ∷ 101 ∷ 100 ∷ 32 ∷ []) ++ dec n ++ (10 ∷ [])
+unfoldable pub refusalLine : ℕ → List ℕ
+refusalLine n = (114 ∷ 101 ∷ 102 ∷ 117 ∷ 115 ∷ 101 ∷ 100 ∷ 32 ∷ []) ++ dec n ++ (10 ∷ [])
 
 -- entry k, where it is marked and not the setting's own
 unfoldable pub mover : List Bool → ℕ → ℕ → List ℕ
@@ -69,8 +76,8 @@ movers marks own zero = []
 movers marks own (suc n) = movers marks own n ++ mover marks own n
 
 -- "moved", how many entries depend on the setting, and which they are
-unfoldable pub moved : ℕ → List Bool → ℕ → List ℕ
-moved n marks own = (109 ∷ 111 ∷ 118 ∷ 101 ∷ 100 ∷ 32 ∷ []) ++ dec n ++ fields (movers marks own 128) ++ (10 ∷ [])
+unfoldable pub movedLine : ℕ → List Bool → ℕ → List ℕ
+movedLine n marks own = (109 ∷ 111 ∷ 118 ∷ 101 ∷ 100 ∷ 32 ∷ []) ++ dec n ++ fields (movers marks own 128) ++ (10 ∷ [])
 
 -- m is l with the text t at place a, and b is the place after t
 pub record Put (l m : List ℕ) (a b : ℕ) (t : List ℕ) : Type 0 where

@@ -1,6 +1,6 @@
 // The lines of a listing.
 use crate::put;
-use shape::Outcome;
+use operand::Outcome;
 ghost use mathlib.Core.Path.{_≡_};
 ghost use Prim.Native.Nat.{_+_, _*_, _/_, _≤_, min};
 ghost use lib.ListN.{length};
@@ -24,21 +24,21 @@ fn used(cols: u8, rows: u8) -> usize
 
 // The components in use.
 fn components(out: &mut [u8], at: usize, o: Outcome, formed: bool) -> usize
-    requires { ⌜ at + 272 ≤ length (now out) ⌝ }
-    ensures { λ r. ⌜ Put (now (out .entry)) (now (out .exit)) at r (shown o formed) × (r ≤ at + 272) ⌝ }
+    requires { ⌜ at + 336 ≤ length (now out) ⌝ }
+    ensures { λ r. ⌜ Put (now (out .entry)) (now (out .exit)) at r (shown o formed) × (r ≤ at + 336) ⌝ }
 {
     if (o.status == 0) & formed {
         let v = o.value;
         let xs = v.comps;
-        return put::words(out, at, xs, used(v.cols, v.rows));
+        return put::firsts(out, at, xs, used(v.cols, v.rows));
     }
     at
 }
 
 // Entry k's line.
 fn entry(out: &mut [u8], at: usize, k: usize, o: Outcome, formed: bool) -> usize
-    requires { ⌜ at + 400 ≤ length (now out) ⌝ }
-    ensures { λ r. ⌜ Put (now (out .entry)) (now (out .exit)) at r (line k o formed) × (r ≤ at + 400) ⌝ }
+    requires { ⌜ at + 480 ≤ length (now out) ⌝ }
+    ensures { λ r. ⌜ Put (now (out .entry)) (now (out .exit)) at r (line k o formed) × (r ≤ at + 480) ⌝ }
 {
     let v = o.value;
     let fs = [
@@ -49,15 +49,15 @@ fn entry(out: &mut [u8], at: usize, k: usize, o: Outcome, formed: bool) -> usize
         o.detail as u64,
     ];
     let a = put::decimal(out, at, k as u64);
-    let b = put::fields(out, a, fs);
+    let b = put::row(out, a, &fs, false);
     let c = components(out, b, o, formed);
     put::text(out, c, b"\n")
 }
 
 // The lines of the first n entries.
 pub(crate) fn put(out: &mut [u8], at: usize, results: &[u8], n: usize) -> usize
-    requires { ⌜ at + 400 * n ≤ length (now out) ⌝ }
-    ensures { λ r. ⌜ Put (now (out .entry)) (now (out .exit)) at r (lines (now (results .entry)) n) × (r ≤ at + 400 * n) ⌝ }
+    requires { ⌜ at + 480 * n ≤ length (now out) ⌝ }
+    ensures { λ r. ⌜ Put (now (out .entry)) (now (out .exit)) at r (lines (now (results .entry)) n) × (r ≤ at + 480 * n) ⌝ }
 {
     let mut p = at;
     let mut k = 0;

@@ -1,10 +1,7 @@
 // The entries that a change moved.
 use crate::put;
-ghost use mathlib.Core.Path.{_≡_};
-ghost use mathlib.Core.Bool.{_&&_, not};
 ghost use Prim.Native.Nat.{_+_, _≤_, _<_};
-ghost use lib.Dec.{eqb};
-ghost use lib.ListN.{length, getD};
+ghost use lib.ListN.{length};
 ghost use Rattle.text.specs.Text.{Put, fields, mover, movers};
 
 // Entry k's number after a space, where it is marked and not the setting's own.
@@ -13,7 +10,7 @@ fn one(out: &mut [u8], at: usize, marks: &[bool; 128], own: u64, k: usize) -> us
     ensures { λ r. ⌜ Put (now (out .entry)) (now (out .exit)) at r (fields (mover (now (marks .entry)) own k)) × (r ≤ at + 21) ⌝ }
 {
     if marks[k] & (k as u64 != own) {
-        return put::field(out, at, k as u64);
+        return put::number(out, at, k as u64, false);
     }
     at
 }

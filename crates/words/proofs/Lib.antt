@@ -1,3 +1,4 @@
 pub mod Spellings
 pub mod Splits
+pub mod Impostors
 pub mod Single

@@ -10,6 +10,8 @@ use Rattle.words.proofs.number.decimal.Kinds as decimal-kinds
 use Rattle.words.proofs.number.decimal.Reads as decimal-reads
 use Rattle.words.proofs.number.hex.Kinds as hex-kinds
 use Rattle.words.proofs.number.hex.Reads as hex-reads
+use Rattle.words.proofs.split.end_of.Kinds as end-of-kinds
+use Rattle.words.proofs.split.end_of.Reads as end-of-reads
 use Rattle.words.proofs.split.count.Kinds as count-kinds
 use Rattle.words.proofs.split.count.Reads as count-reads
 use Rattle.words.proofs.split.word.Kinds as word-kinds
@@ -27,6 +29,9 @@ hex-one κs a x y s t p q = p ∙ sym q
 
 pub count-one : OneAnswer 1 count-kinds.ps count-kinds.r count-reads.Post
 count-one κs a x y s t p q = p ∙ sym q
+
+pub end-of-one : OneAnswer 1 end-of-kinds.ps end-of-kinds.r end-of-reads.Post
+end-of-one κs a x y s t p q = p ∙ sym q
 
 -- of a part that is handed back, its bytes
 pub word-one : (κs : Lfts 1) (a : Dens κs word-kinds.ps) (x y : resT word-kinds.r κs .Denot) (s t : AtExit (endedOf 1 word-kinds.ps word-kinds.r) κs)

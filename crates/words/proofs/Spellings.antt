@@ -1,6 +1,6 @@
 -- A word's number, digit after digit.
 use mathlib.Core.Path.{_≡_, refl, sym, ap, _∙_}
-use mathlib.Core.Bool.{Bool, true, false, _&&_}
+use mathlib.Core.Bool.{Bool, true, false, cond, _&&_}
 use mathlib.Core.List.{List, [], _∷_}
 use Prim.Native.Nat.{ℕ, suc, _+_, _-_, _*_, _/_, _^_, _≤_, _<_}
 use native.Mathlib.Omega.{arith}
@@ -12,18 +12,18 @@ use lib.Seq.{drop-cons}
 use borrow.Author.Tests.{lt-ltb, le-ltb}
 use Rattle.words.specs.declared.number.Spelled.{Spelled}
 use Rattle.words.specs.declared.number.Spelled.the-variants.{Number, Nothing}
-use Rattle.words.specs.Spelling.{pick, digitOf, onwards, digitsOnly, spelled}
+use Rattle.words.specs.Spelling.{digitOf, onwards, digitsOnly, spelled}
 
 -- what is spelled by the number n and then the digits of a word
 unfoldable pub further : ℕ → ℕ → List ℕ → Spelled
-further b n cs = pick (digitsOnly b cs && ltb (onwards b n cs) (2 ^ 64)) (Number (onwards b n cs)) Nothing
+further b n cs = cond (digitsOnly b cs && ltb (onwards b n cs) (2 ^ 64)) (Number (onwards b n cs)) Nothing
 
 pub empty : (b : ℕ) (s : List ℕ) → length s ≡ 0 → Nothing ≡ spelled b s
-unfolding spelled pick
+unfolding spelled
 empty b s e = rw e
 
 pub begun : (b : ℕ) (s : List ℕ) → (length s ≡ 0 → ⊥) → further b 0 (drop 0 s) ≡ spelled b s
-unfolding spelled pick further
+unfolding spelled further
 begun b s ne = rw (lt-ltb 0 (length s) (omega (arith, ne)))
 
 -- a further digit makes no number smaller
@@ -38,28 +38,31 @@ and-false : (a b : Bool) → b ≡ false → (a && b) ≡ false
 and-false true b e = e
 and-false false b e = refl
 
+-- more than 64 bits spell nothing
+more-bits : (b n : ℕ) (cs : List ℕ) → 2 ^ 64 ≤ onwards b n cs → Nothing ≡ further b n cs
+unfolding further
+more-bits b n cs h =
+    sym (ap (λ (t : Bool). cond t (Number (onwards b n cs)) Nothing) (and-false (digitsOnly b cs) _ (le-ltb (onwards b n cs) (2 ^ 64) h)))
+
 cons-digit : (b n c d : ℕ) (cs : List ℕ) → d ≡ digitOf c → d < b → further b (n * b + d) cs ≡ further b n (c ∷ cs)
-unfolding further digitsOnly onwards pick
+unfolding further digitsOnly onwards
 cons-digit b n c d cs e g = rw (← e, lt-ltb d b g)
 
 -- a digit of the word is next
 module _ (b n : ℕ) (s : List ℕ) (i d : ℕ) (h : i < length s) (e : d ≡ digitOf (getD s i 0)) where
   pub no-digit : b ≤ d → Nothing ≡ further b n (drop i s)
-  unfolding further digitsOnly onwards pick
+  unfolding further digitsOnly onwards
   no-digit g = rw (drop-cons s i 0 h, ← e, le-ltb d b g)
 
   pub one-digit : d < b → further b (n * b + d) (drop (i + 1) s) ≡ further b n (drop i s)
   one-digit g = rw (add-one i, drop-cons s i 0 h) (cons-digit b n (getD s i 0) d (drop (suc i) s) e g)
 
   pub too-long : 1 ≤ b → d < b → 2 ^ 64 ≤ n * b + d → Nothing ≡ further b n (drop i s)
-  unfolding further pick
-  too-long o g z =
-      let f : ltb (onwards b (n * b + d) (drop (i + 1) s)) (2 ^ 64) ≡ false = le-ltb (onwards b (n * b + d) (drop (i + 1) s)) (2 ^ 64) (le-trans z (grows b (n * b + d) (drop (i + 1) s) o)) in
-      sym (sym (one-digit g) ∙ ap (λ (t : Bool). pick t (Number (onwards b (n * b + d) (drop (i + 1) s))) Nothing) (and-false (digitsOnly b (drop (i + 1) s)) (ltb (onwards b (n * b + d) (drop (i + 1) s)) (2 ^ 64)) f))
+  too-long o g z = more-bits b (n * b + d) (drop (i + 1) s) (le-trans z (grows b (n * b + d) (drop (i + 1) s) o)) ∙ one-digit g
 
 -- no digit is left
 pub ended : (b n : ℕ) (s : List ℕ) (i : ℕ) → length s ≤ i → n < 2 ^ 64 → Number n ≡ further b n (drop i s)
-unfolding further digitsOnly onwards pick
+unfolding further digitsOnly onwards
 ended b n s i h f = rw (drop-of-length-le s h, lt-ltb n (2 ^ 64) f)
 
 -- the test for a number that is too long, and what it leaves

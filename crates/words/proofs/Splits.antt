@@ -7,68 +7,81 @@ use native.Mathlib.Omega.{arith}
 use native.Mathlib.Nat.{not-suc-le-zero}
 use native.Mathlib.Numerals.{add-one}
 use lib.Dec.{eqb}
-use lib.ListN.{length, take, drop, getD, drop-of-length-le}
+use lib.ListN.{length, take, drop, getD, length-drop, drop-of-length-le}
 use lib.Seq.{drop-cons, drop-drop}
 use borrow.Author.Tests.{eq-eqb, ne-eqb}
-use Rattle.words.specs.Split.{before, behind, wordAt, countOf}
+use Rattle.words.specs.Split.{before, behind, wordAt, wordCount}
 
--- a byte 0 ends a word, and any other is one of its bytes
-module _ (s : List ℕ) (i : ℕ) (h : i < length s) where
-  pub before-zero : getD s i 0 ≡ 0 → length (before (drop i s)) ≡ 0
+-- a part, byte after byte: one that ends it, another, or none
+module _ (end : ℕ) (s : List ℕ) (i : ℕ) where
+  pub part-ends : i < length s → getD s i 0 ≡ end → length (before end (drop i s)) ≡ 0
   unfolding before
-  before-zero e = rw (drop-cons s i 0 h, eq-eqb (getD s i 0) 0 e)
+  part-ends h e = rw (drop-cons s i 0 h, eq-eqb (getD s i 0) end e)
 
-  pub before-more : (getD s i 0 ≡ 0 → ⊥) → length (before (drop i s)) ≡ length (before (drop (i + 1) s)) + 1
+  pub part-more : i < length s → (getD s i 0 ≡ end → ⊥) → length (before end (drop i s)) ≡ length (before end (drop (i + 1) s)) + 1
   unfolding before
-  before-more n = rw (drop-cons s i 0 h, ne-eqb (getD s i 0) 0 n, add-one i) (omega arith)
+  part-more h n = rw (drop-cons s i 0 h, ne-eqb (getD s i 0) end n, add-one i) (omega arith)
 
-  pub count-more : countOf (drop i s) ≡ cond (eqb (getD s i 0) 0) 1 0 + countOf (drop (i + 1) s)
-  unfolding countOf
-  count-more = rw (drop-cons s i 0 h, add-one i)
+  pub part-none : length s ≤ i → length (before end (drop i s)) ≡ 0
+  unfolding before
+  part-none h = rw (drop-of-length-le s h)
 
-pub before-end : (s : List ℕ) (i : ℕ) → length s ≤ i → length (before (drop i s)) ≡ 0
-unfolding before
-before-end s i h = rw (drop-of-length-le s h)
+pub count-more : (s : List ℕ) (i : ℕ) → i < length s → wordCount (drop i s) ≡ cond (eqb (getD s i 0) 0) 1 0 + wordCount (drop (i + 1) s)
+unfolding wordCount
+count-more s i h = rw (drop-cons s i 0 h, add-one i)
 
-pub count-end : (s : List ℕ) (i : ℕ) → length s ≤ i → countOf (drop i s) ≡ 0
-unfolding countOf
+pub count-end : (s : List ℕ) (i : ℕ) → length s ≤ i → wordCount (drop i s) ≡ 0
+unfolding wordCount
 count-end s i h = rw (drop-of-length-le s h)
 
--- the first word is at the start, and the rest after its 0
-before-is : (l : List ℕ) → before l ≡ take (length (before l)) l
+-- a part is at the start, and no longer than what it is of
+before-is : (end : ℕ) (l : List ℕ) → before end l ≡ take (length (before end l)) l
 unfolding before
-before-is [] = refl
-before-is (c ∷ cs) = by-cases (eqb c 0) (before-is cs)
+before-is end [] = refl
+before-is end (c ∷ cs) = by-cases (eqb c end) (before-is end cs)
   where
-    by-cases : (t : Bool) → before cs ≡ take (length (before cs)) cs → cond t [] (c ∷ before cs) ≡ take (length (cond t [] (c ∷ before cs))) (c ∷ cs)
+    by-cases : (t : Bool) → before end cs ≡ take (length (before end cs)) cs → cond t [] (c ∷ before end cs) ≡ take (length (cond t [] (c ∷ before end cs))) (c ∷ cs)
     by-cases true e = refl
     by-cases false e = ap (λ (t : List ℕ). c ∷ t) e
 
-behind-is : (l : List ℕ) → behind l ≡ drop (suc (length (before l))) l
+before-short : (end : ℕ) (l : List ℕ) → length (before end l) ≤ length l
+unfolding before
+before-short end [] = omega arith
+before-short end (c ∷ cs) = by-cases (eqb c end) (before-short end cs)
+  where
+    by-cases : (t : Bool) → length (before end cs) ≤ length cs → length (cond t [] (c ∷ before end cs)) ≤ suc (length cs)
+    by-cases true h = omega arith
+    by-cases false h = omega arith
+
+pub within : (end : ℕ) (s : List ℕ) (a e : ℕ) → e ≡ a + length (before end (drop a s)) → a ≤ length s → (a ≤ e) × (e ≤ length s)
+within end s a e h f = (omega arith, omega (arith, before-short end (drop a s), length-drop a s))
+
+-- the rest is after a word's 0
+behind-is : (l : List ℕ) → behind l ≡ drop (suc (length (before 0 l))) l
 unfolding before behind
 behind-is [] = refl
 behind-is (c ∷ cs) = by-cases (eqb c 0) (behind-is cs)
   where
-    by-cases : (t : Bool) → behind cs ≡ drop (suc (length (before cs))) cs → cond t cs (behind cs) ≡ drop (suc (length (cond t [] (c ∷ before cs)))) (c ∷ cs)
+    by-cases : (t : Bool) → behind cs ≡ drop (suc (length (before 0 cs))) cs → cond t cs (behind cs) ≡ drop (suc (length (cond t [] (c ∷ before 0 cs)))) (c ∷ cs)
     by-cases true e = refl
     by-cases false e = e
 
 -- the place after a word's 0, and the end where the last word has none
-module _ (s : List ℕ) (a e : ℕ) (h : e ≡ a + length (before (drop a s))) where
+module _ (s : List ℕ) (a e : ℕ) (h : e ≡ a + length (before 0 (drop a s))) where
   pub next-there : drop (e + 1) s ≡ behind (drop a s)
   next-there =
-      let q : a + suc (length (before (drop a s))) ≡ e + 1 = omega arith in
-      sym (behind-is (drop a s) ∙ drop-drop (suc (length (before (drop a s)))) a s ∙ ap (λ (k : ℕ). drop k s) q)
+      let q : a + suc (length (before 0 (drop a s))) ≡ e + 1 = omega arith in
+      sym (behind-is (drop a s) ∙ drop-drop (suc (length (before 0 (drop a s)))) a s ∙ ap (λ (k : ℕ). drop k s) q)
 
   pub next-none : length s ≤ e → drop e s ≡ behind (drop a s)
   next-none l =
       let m : length s ≤ e + 1 = omega arith in
       drop-of-length-le s l ∙ sym (drop-of-length-le s m) ∙ next-there
 
-  pub first-word : take (e - a) (drop a s) ≡ before (drop a s)
+  pub first-word : take (e - a) (drop a s) ≡ before 0 (drop a s)
   first-word =
-      let q : e - a ≡ length (before (drop a s)) = omega arith in
-      rw q (sym (before-is (drop a s)))
+      let q : e - a ≡ length (before 0 (drop a s)) = omega arith in
+      rw q (sym (before-is 0 (drop a s)))
 
 -- a word further
 pub word-next : (k : ℕ) (l : List ℕ) → 0 < k → wordAt (k - 1) (behind l) ≡ wordAt k l
@@ -76,6 +89,6 @@ unfolding wordAt
 word-next zero l h = absurd (not-suc-le-zero h)
 word-next (suc k) l h = let e : suc k - 1 ≡ k = omega arith in rw e
 
-pub word-here : (k : ℕ) (l : List ℕ) → k ≡ 0 → before l ≡ wordAt k l
+pub word-here : (k : ℕ) (l : List ℕ) → k ≡ 0 → before 0 l ≡ wordAt k l
 unfolding wordAt
 word-here k l e = rw e

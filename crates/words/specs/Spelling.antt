@@ -1,15 +1,11 @@
 -- The number that a word spells.
 use Prim.Native.Nat.{ℕ, _+_, _-_, _*_, _^_}
-use mathlib.Core.Bool.{Bool, true, false, cond, _&&_}
+use mathlib.Core.Bool.{Bool, true, cond, _&&_}
 use mathlib.Core.List.{List, [], _∷_}
 use lib.Dec.{ltb}
 use lib.ListN.{length}
 use Rattle.words.specs.declared.number.Spelled.{Spelled}
 use Rattle.words.specs.declared.number.Spelled.the-variants.{Number, Nothing}
-
-unfoldable pub pick : Bool → Spelled → Spelled → Spelled
-pick true a b = a
-pick false a b = b
 
 -- `0` to `9`, and 16 below them
 unfoldable pub lowDigit : ℕ → ℕ
@@ -35,4 +31,4 @@ digitsOnly b (c ∷ cs) = ltb (digitOf c) b && digitsOnly b cs
 
 -- a word that is empty, has another byte or spells a number of more than 64 bits spells nothing
 unfoldable pub spelled : ℕ → List ℕ → Spelled
-spelled b s = pick (ltb 0 (length s)) (pick (digitsOnly b s && ltb (onwards b 0 s) (2 ^ 64)) (Number (onwards b 0 s)) Nothing) Nothing
+spelled b s = cond (ltb 0 (length s)) (cond (digitsOnly b s && ltb (onwards b 0 s) (2 ^ 64)) (Number (onwards b 0 s)) Nothing) Nothing

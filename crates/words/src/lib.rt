@@ -6,4 +6,5 @@ pub use number::Spelled;
 pub use number::decimal;
 pub use number::hex;
 pub use split::count;
+pub use split::end_of;
 pub use split::word;

@@ -4,16 +4,15 @@ ghost use Prim.Native.Nat.{_+_, _≤_};
 ghost use mathlib.Core.Bool.{cond};
 ghost use lib.Dec.{eqb};
 ghost use lib.ListN.{length, drop};
-ghost use Rattle.words.specs.Split.{before, behind, wordAt, countOf};
+ghost use Rattle.words.specs.Split.{before, behind, wordAt, wordCount};
 
-// Where the word ends that starts at a place.
-fn end(s: &[u8], from: usize) -> usize
-    requires { ⌜ from ≤ length (now s) ⌝ }
-    ensures { λ r. ⌜ (r ≡ from + length (before (drop from (now (s .entry))))) × (r ≤ length (now (s .entry))) ⌝ }
+// Where the part ends that starts at a place: at the first byte from there on that is `end`, or behind the last.
+pub fn end_of(s: &[u8], from: usize, end: u8) -> usize
+    ensures { λ r. ⌜ r ≡ from + length (before end (drop from (now (s .entry)))) ⌝ }
 {
     let mut i = from;
     while i < s.len() {
-        if s[i] == 0 {
+        if s[i] == end {
             return i;
         }
         i += 1;
@@ -26,7 +25,7 @@ fn next(s: &[u8], from: usize) -> usize
     requires { ⌜ from ≤ length (now s) ⌝ }
     ensures { λ r. ⌜ (drop r (now (s .entry)) ≡ behind (drop from (now (s .entry)))) × (r ≤ length (now (s .entry))) ⌝ }
 {
-    let e = end(s, from);
+    let e = end_of(s, from, 0);
     if e < s.len() { e + 1 } else { e }
 }
 
@@ -40,7 +39,7 @@ pub fn word(s: &[u8], k: usize) -> &[u8]
         at = next(s, at);
         left -= 1;
     }
-    let e = end(s, at);
+    let e = end_of(s, at, 0);
     &s[at..e]
 }
 
@@ -53,7 +52,7 @@ fn ends(c: u8) -> usize
 
 // How many words there are.
 pub fn count(s: &[u8]) -> usize
-    ensures { λ r. ⌜ r ≡ countOf (now (s .entry)) ⌝ }
+    ensures { λ r. ⌜ r ≡ wordCount (now (s .entry)) ⌝ }
 {
     let mut n = 0;
     let mut i = 0;

@@ -1,5 +1,5 @@
 -- `booth::wgsl_unary` meets its contract: a scalar is the operand in its bytes.
-use Rattle.booth.proofs.Operands.{found}
+use Rattle.booth.proofs.Operands.{scalar-found}
 use borrow.Author.Needs.{needs}
 use Rattle.booth.proofs.wgsl_unary.Statement.{statement}
 use Rattle.booth.proofs.wgsl_unary.Tie as tie
@@ -41,7 +41,8 @@ returns-2 : tie.Need-returns-2
 returns-2 c =
     let i = c .before .before .before .before .before .before in
     let v = i .before .before .one-in in
-    rw (found (i .before .before .before .before .before .args .operand .now) (v .result) (v .ensures) _ _ (i .ty .given .1), ← c .before .before .before .unary-scalar .ensures) (c .before .before .settle2 .ensures)
+    let s = scalar-found (i .before .before .before .before .before .args .operand .now) (v .result) (v .ensures) _ _ (i .ty .given .1) in
+    rw (s, ← c .before .before .before .unary-scalar .ensures) (c .before .before .settle2 .ensures)
 
 pub wgsl-unary-spec : {M : Type 1} → statement M
 wgsl-unary-spec =

@@ -1,5 +1,5 @@
 -- `fields::part` meets its contract.
-use Rattle.fields.proofs.Ends.{past, rest}
+use Rattle.fields.proofs.Ends.{part-past, part-rest}
 use native.Mathlib.Omega.{arith}
 use mathlib.Core.Path.{_≡_}
 use Prim.Native.Nat.{_+_, _-_}
@@ -17,7 +17,7 @@ part-result-end : tie.Need-part-result-end
 part-result-end c = search needs
 
 returns : tie.Need-returns
-returns c = past (c .before .before .args .s .now) (c .before .before .args .at) (c .before .before .args .n) (c .before .if1 .taken)
+returns c = part-past (c .before .before .args .s .now) (c .before .before .args .at) (c .before .before .args .n) (c .before .if1 .taken)
 
 sub-if2 : tie.Need-sub-if2
 sub-if2 c = search needs
@@ -32,7 +32,7 @@ part-result-end-2 : tie.Need-part-result-end-2
 part-result-end-2 c = search needs
 
 returns-2 : tie.Need-returns-2
-returns-2 c = rest (c .before .before .before .args .s .now) (c .before .before .before .args .at) (c .before .before .before .args .n) (c .before .if2 .taken)
+returns-2 c = part-rest (c .before .before .before .args .s .now) (c .before .before .before .args .at) (c .before .before .before .args .n) (c .before .if2 .taken)
 
 add-e : tie.Need-add-e
 add-e c = search needs

@@ -5,14 +5,8 @@ use Rattle.fold.specs.Fresh.{foldedOf}
 use Rattle.fold.proofs.check.Statement.{statement}
 use Rattle.fold.proofs.check.Tie as tie
 
-check-requires : tie.Need-check-requires
-check-requires c κs = search needs
-
-told-requires : tie.Need-told-requires
-told-requires c κs = search needs
-
 returns : tie.Need-returns
-returns c = c .told .ensures ∙ ap foldedOf (c .before .check .ensures)
+returns c = c .answer-of .ensures ∙ ap foldedOf (c .before .check .ensures)
 
 pub check-spec : {M : Type 1} → statement M
-check-spec = tie.close (tie.spec check-requires told-requires returns)
+check-spec = tie.close (tie.spec (λ c κs. search needs) (λ c κs. search needs) returns)

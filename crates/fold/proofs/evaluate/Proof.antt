@@ -4,35 +4,29 @@ use Rattle.fold.proofs.Answers.{fresh-bad, fresh-size, accepted, fresh-
 use Rattle.fold.proofs.evaluate.Statement.{statement}
 use Rattle.fold.proofs.evaluate.Tie as tie
 
-check-requires : tie.Need-check-requires
-check-requires c κs = search needs
-
-enum-known-seen : tie.Need-enum-known-seen
-enum-known-seen c = search needs
-
-enum-told : tie.Need-enum-told
-enum-told c = search needs
-
-told-requires : tie.Need-told-requires
-told-requires c κs = search needs
-
 returns : tie.Need-returns
-returns c = fresh-bad _ _ (c .before .before .before .check .ensures) _ _ (c .before .enum-told .given .1) _ (c .told .ensures) _
-
-sized-requires : tie.Need-sized-requires
-sized-requires c κs = search needs
+returns c = fresh-bad _ _ (c .before .before .before .check .ensures) _ _ (c .before .enum-told .given .1) _ (c .answer-of .ensures) _
 
 returns-2 : tie.Need-returns-2
-returns-2 c = fresh-size _ _ (c .before .before .before .before .before .check .ensures) _ (c .before .before .before .seen .given .1) _ _ (c .before .sized .ensures) (c .if1 .taken)
+returns-2 c =
+    let seen = c .before .before .before in
+    fresh-size _ _ (seen .before .before .check .ensures) _ (seen .seen .given .1) _ _ (c .before .sized .ensures) (c .if1 .taken)
 
 fill-requires : tie.Need-fill-requires
-fill-requires c κs = accepted _ _ (c .before .before .before .before .before .before .check .ensures) _ (c .before .before .before .before .seen .given .1)
-
-same-length : tie.Need-same-length
-same-length c = search needs
+fill-requires c κs =
+    let seen = c .before .before .before .before in
+    accepted _ _ (seen .before .before .check .ensures) _ (seen .seen .given .1)
 
 returns-3 : tie.Need-returns-3
-returns-3 c = fresh-done _ _ (c .before .before .before .before .before .before .before .before .before .check .ensures) _ (c .before .before .before .before .before .before .before .seen .given .1) _ _ (c .before .before .before .before .before .sized .ensures) (c .before .before .before .before .if1 .left) _ (c .before .before .fill .ensures)
+returns-3 c =
+    let fill = c .before .before in
+    let size = fill .before .before in
+    let seen = size .before .before .before in
+    fresh-done _ _ (seen .before .before .check .ensures) _ (seen .seen .given .1) _ _ (size .before .sized .ensures) (size .if1 .left) _ (fill .fill .ensures)
 
 pub evaluate-spec : {M : Type 1} → statement M
-evaluate-spec = tie.close (tie.spec check-requires enum-known-seen enum-told told-requires returns sized-requires returns-2 fill-requires same-length returns-3)
+evaluate-spec =
+    tie.close
+    (tie.spec
+    (λ c κs. search needs) (λ c. search needs) (λ c. search needs) (λ c κs. search needs) returns (λ c κs. search needs) returns-2 fill-requires
+    (λ c. search needs) returns-3)

@@ -12,38 +12,8 @@ Inv-loop line words₀ i₀ words i = (i ≤ length line) × (length words ≡ l
 abbrev μ-loop : tie.MeasureT-loop
 μ-loop line words₀ i₀ words i = length line - i
 
-returns : tie.Need-returns Inv-loop μ-loop
-returns c = omega arith
-
-returns-2 : tie.Need-returns-2 Inv-loop μ-loop
-returns-2 c = omega arith
-
-loop-holds : tie.Need-loop-holds Inv-loop μ-loop
-loop-holds c = omega arith
-
-shared-slice-read-if3 : tie.Need-shared-slice-read-if3 Inv-loop μ-loop
-shared-slice-read-if3 c = omega arith
-
-shared-slice-read-words : tie.Need-shared-slice-read-words Inv-loop μ-loop
-shared-slice-read-words c = omega arith
-
-slice-write-words : tie.Need-slice-write-words Inv-loop μ-loop
-slice-write-words c = omega arith
-
-add-i : tie.Need-add-i Inv-loop μ-loop
-add-i c = omega arith
-
-loop-less : tie.Need-loop-less Inv-loop μ-loop
-loop-less c = omega arith
-
 loop-again : tie.Need-loop-again Inv-loop μ-loop
 loop-again c = simp length-set (omega arith)
-
-slice-write-words-2 : tie.Need-slice-write-words-2 Inv-loop μ-loop
-slice-write-words-2 c = omega arith
-
-add-result : tie.Need-add-result Inv-loop μ-loop
-add-result c = omega arith
 
 same-length : tie.Need-same-length Inv-loop μ-loop
 same-length c = simp length-set (omega arith)
@@ -55,18 +25,5 @@ pub split-spec : {M : Type 1} → statement M
 split-spec =
     tie.close
     (tie.spec
-    Inv-loop
-    μ-loop
-    returns
-    returns-2
-    loop-holds
-    shared-slice-read-if3
-    shared-slice-read-words
-    slice-write-words
-    add-i
-    loop-less
-    loop-again
-    slice-write-words-2
-    add-result
-    same-length
-    returns-3)
+    Inv-loop μ-loop (λ c. omega arith) (λ c. omega arith) (λ c. omega arith) (λ c. omega arith) (λ c. omega arith) (λ c. omega arith)
+    (λ c. omega arith) (λ c. omega arith) loop-again (λ c. omega arith) (λ c. omega arith) same-length returns-3)

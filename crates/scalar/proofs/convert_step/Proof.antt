@@ -1,8 +1,5 @@
 -- `scalar::convert_step` meets its contract. Assumes nothing.
-use mathlib.Core.Path.{sym, ap, _∙_}
-use Rattle.scalar.specs.declared.Found.{Found}
-use Rattle.scalar.specs.Convert.{convertTo}
-use Rattle.scalar.specs.Step.{converted, convOf, onFound}
+use Rattle.scalar.proofs.Steps.{no-source, no-target, a-target}
 use borrow.Author.Needs.{needs}
 use Rattle.scalar.proofs.convert_step.Statement.{statement}
 use Rattle.scalar.proofs.convert_step.Tie as tie
@@ -17,20 +14,32 @@ enum-told : tie.Need-enum-told
 enum-told c = search needs
 
 returns : tie.Need-returns
-unfolding convOf
-returns c = ap (λ (f : Found). onFound f (λ s. converted (convertTo (c .before .before .before .args .to) s))) (sym (c .enum-told .given .1) ∙ c .before .before .scalar-of .ensures)
+returns c = let a = c .before .before .before .args in no-source (a .from) (a .to) (a .bits) (c .before .before .scalar-of .ensures) (c .enum-told .given .1)
 
 convert-requires : tie.Need-convert-requires
 convert-requires c κs = search needs
 
-conv-of-requires : tie.Need-conv-of-requires
-conv-of-requires c κs = search needs
+enum-known-t : tie.Need-enum-known-t
+enum-known-t c = search needs
+
+enum-told-2 : tie.Need-enum-told-2
+enum-told-2 c = search needs
 
 returns-2 : tie.Need-returns-2
-unfolding convOf
 returns-2 c =
-    c .conv-of .ensures ∙ ap converted (c .before .convert .ensures)
-    ∙ ap (λ (f : Found). onFound f (λ s. converted (convertTo (c .before .before .before .before .before .before .args .to) s))) (sym (c .before .before .before .s .given .1) ∙ c .before .before .before .before .before .scalar-of .ensures)
+    let k = c .before .before .before .before in
+    let a = k .before .before .before .args in
+    no-target (a .from) (a .to) (a .bits) (k .before .before .scalar-of .ensures) (k .s .given .1) (c .before .before .convert .ensures) (c .enum-told2 .given .1)
+
+bits-of-requires : tie.Need-bits-of-requires
+bits-of-requires c κs = search needs
+
+returns-3 : tie.Need-returns-3
+returns-3 c =
+    let k = c .before .before .before .before .before .before in
+    let a = k .before .before .before .args in
+    a-target (a .from) (a .to) (a .bits) (k .before .before .scalar-of .ensures) (k .s .given .1) (c .before .before .before .before .convert .ensures)
+    (c .before .before .t .given .1) (c .bits-of .ensures)
 
 pub convert-step-spec : {M : Type 1} → statement M
 convert-step-spec =
@@ -41,5 +50,8 @@ convert-step-spec =
     enum-told
     returns
     convert-requires
-    conv-of-requires
-    returns-2)
+    enum-known-t
+    enum-told-2
+    returns-2
+    bits-of-requires
+    returns-3)

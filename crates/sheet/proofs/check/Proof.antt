@@ -37,7 +37,9 @@ enum-known-k : tie.Need-enum-known-k Inv-loop μ-loop
 enum-known-k c = search needs
 
 returns-3 : tie.Need-returns-3 Inv-loop μ-loop
-returns-3 c = going-bad _ _ _ _ (c .before .before .before .before .before .before .before .loop .inv) (omega arith) (omega arith) _ (c .before .before .before .read-record .ensures) _ _ (c .before .k .given .1)
+returns-3 c =
+    let i = c .before .before .before .before .before .before .before .loop .inv in
+    going-bad _ _ _ _ i (omega arith) (omega arith) _ (c .before .before .before .read-record .ensures) _ _ (c .before .k .given .1)
 
 enum-known-stage : tie.Need-enum-known-stage Inv-loop μ-loop
 enum-known-stage c = search needs
@@ -52,7 +54,9 @@ loop-less : tie.Need-loop-less Inv-loop μ-loop
 loop-less c = omega (arith, record-past _ _ _ _ _ _ (c .before .before .before .read-record .ensures) (c .before .stage .given .1))
 
 loop-again : tie.Need-loop-again Inv-loop μ-loop
-loop-again c = going-on _ _ _ _ (c .before .before .before .before .before .before .before .loop .inv) (omega arith) (omega arith) _ (c .before .before .before .read-record .ensures) _ _ (c .before .stage .given .1)
+loop-again c =
+    let i = c .before .before .before .before .before .before .before .loop .inv in
+    going-on _ _ _ _ i (omega arith) (omega arith) _ (c .before .before .before .read-record .ensures) _ _ (c .before .stage .given .1)
 
 returns-4 : tie.Need-returns-4 Inv-loop μ-loop
 returns-4 c = going-end _ _ _ _ (c .before .loop .inv) (c .loop-test .left)

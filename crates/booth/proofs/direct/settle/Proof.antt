@@ -1,5 +1,5 @@
 -- `booth::direct::settle` meets its contract.
-use Rattle.booth.proofs.Settled.{wrong-size, refused, written}
+use Rattle.booth.proofs.Settled.{settled-wrong-size, settled-refused, settled-written}
 use borrow.Author.Needs.{needs}
 use Rattle.booth.proofs.direct.settle.Statement.{statement}
 use Rattle.booth.proofs.direct.settle.Tie as tie
@@ -8,7 +8,7 @@ pack-requires : tie.Need-pack-requires
 pack-requires c κs = search needs
 
 returns : tie.Need-returns
-returns c = wrong-size (c .before .before .before .args .slot .now) (c .before .before .before .args .o) (c .pack .result) (c .before .if1 .taken) (c .pack .ensures)
+returns c = settled-wrong-size _ _ _ (c .before .if1 .taken) (c .pack .ensures)
 
 cast-pack : tie.Need-cast-pack
 cast-pack c = search needs
@@ -17,7 +17,7 @@ pack-requires-2 : tie.Need-pack-requires-2
 pack-requires-2 c κs = search needs
 
 returns-2 : tie.Need-returns-2
-returns-2 c = refused (c .before .before .before .before .before .before .args .slot .now) (c .before .before .before .before .before .before .args .o) (c .before .before .pack2 .result) (c .before .before .before .before .if1 .left) (c .before .before .pack2 .ensures) (c .if2 .taken)
+returns-2 c = settled-refused _ _ _ (c .before .before .before .before .if1 .left) (c .before .before .pack2 .ensures) (c .if2 .taken)
 
 put-requires : tie.Need-put-requires
 put-requires c κs = search needs
@@ -27,8 +27,8 @@ same-length c = search needs
 
 returns-3 : tie.Need-returns-3
 returns-3 c =
-    let s = c .before .before .before .before .before .before .before .before .before .before .args in
-    written (s .slot .now) (s .o) (c .before .before .before .before .before .before .pack2 .result) (c .before .before .before .before .before .before .before .before .if1 .left) (c .before .before .before .before .before .before .pack2 .ensures) (c .before .before .put .last .0) (c .before .before .before .before .if2 .left) (c .before .before .put .ensures)
+    let s = c .before .before .before .before in
+    settled-written _ _ _ (s .before .before .before .before .if1 .left) (s .before .before .pack2 .ensures) _ (s .if2 .left) (c .before .before .put .ensures)
 
 pub settle-spec : {M : Type 1} → statement M
 settle-spec =

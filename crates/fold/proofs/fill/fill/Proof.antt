@@ -19,14 +19,12 @@ loop-holds c = (omega arith, refl, filling-none _ _ _ (c .before .before .pre))
 fill-one-requires : tie.Need-fill-one-requires Inv-loop μ-loop
 fill-one-requires c κs = filling-here _ _ _ _ _ _ (c .before .before .loop .inv .2) (c .before .loop-test .taken)
 
-add-k : tie.Need-add-k Inv-loop μ-loop
-add-k c = omega arith
-
-loop-less : tie.Need-loop-less Inv-loop μ-loop
-loop-less c = omega arith
-
 loop-again : tie.Need-loop-again Inv-loop μ-loop
-loop-again c = (omega arith, c .before .before .fill-one .kept .1 .0 ∙ c .before .before .before .before .before .loop .inv .1, filling-more _ _ _ _ _ _ (c .before .before .before .before .before .loop .inv .2) (c .before .before .before .before .loop-test .taken) _ _ (c .before .before .fill-one .ensures))
+loop-again c =
+    let one = c .before .before in
+    let test = one .before .before in
+    let loop = test .before in
+    (omega arith, one .fill-one .kept .1 .0 ∙ loop .loop .inv .1, filling-more _ _ _ _ _ _ (loop .loop .inv .2) (test .loop-test .taken) _ _ (one .fill-one .ensures))
 
 same-length : tie.Need-same-length Inv-loop μ-loop
 same-length c = c .before .loop .inv .1
@@ -35,4 +33,4 @@ returns : tie.Need-returns Inv-loop μ-loop
 returns c = filling-end _ _ _ _ _ _ (c .before .loop .inv .2) (c .before .loop .inv .0) (c .loop-test .left)
 
 pub fill-spec : {M : Type 1} → statement M
-fill-spec = tie.close (tie.spec Inv-loop μ-loop loop-holds fill-one-requires add-k loop-less loop-again same-length returns)
+fill-spec = tie.close (tie.spec Inv-loop μ-loop loop-holds fill-one-requires (λ c. omega arith) (λ c. omega arith) loop-again same-length returns)

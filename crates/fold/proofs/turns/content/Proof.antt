@@ -4,14 +4,8 @@ use Rattle.fold.proofs.Answers.{content-is}
 use Rattle.fold.proofs.turns.content.Statement.{statement}
 use Rattle.fold.proofs.turns.content.Tie as tie
 
-kept-requires : tie.Need-kept-requires
-kept-requires c κs = search needs
-
-array-write-comps : tie.Need-array-write-comps
-array-write-comps c = search needs
-
 returns : tie.Need-returns
 returns c = content-is _ _ _ (c .kept .ensures)
 
 pub content-spec : {M : Type 1} → statement M
-content-spec = tie.close (tie.spec kept-requires array-write-comps returns)
+content-spec = tie.close (tie.spec (λ c κs. search needs) (λ c. search needs) returns)

@@ -14,26 +14,29 @@ abbrev μ-loop : tie.MeasureT-loop
 loop-holds : tie.Need-loop-holds Inv-loop μ-loop
 loop-holds c = (omega arith, omega arith, finding-none _ _)
 
-next-place-requires : tie.Need-next-place-requires Inv-loop μ-loop
-next-place-requires c κs = tt
-
 add-k : tie.Need-add-k Inv-loop μ-loop
 add-k c =
-    let w = finding-on (c .before .before .loop .k) (c .before .before .before .before .args .n) (c .before .before .before .before .args .i) (c .before .loop-test .taken) in
+    let loop = c .before .before in
+    let more = finding-on (loop .loop .k) (loop .before .before .args .n) (loop .before .before .args .i) (c .before .loop-test .taken) in
     omega arith
 
 loop-less : tie.Need-loop-less Inv-loop μ-loop
 loop-less c =
-    let w = finding-on (c .before .before .loop .k) (c .before .before .before .before .args .n) (c .before .before .before .before .args .i) (c .before .loop-test .taken) in
+    let loop = c .before .before in
+    let more = finding-on (loop .loop .k) (loop .before .before .args .n) (loop .before .before .args .i) (c .before .loop-test .taken) in
     omega arith
 
 loop-again : tie.Need-loop-again Inv-loop μ-loop
 loop-again c =
-    let w = finding-on (c .before .before .loop .k) (c .before .before .before .before .args .n) (c .before .before .before .before .args .i) (c .before .loop-test .taken) in
-    (omega arith, omega arith, finding-more _ _ _ _ _ (c .before .before .loop .inv .2) (w .0) (c .next-place .ensures))
+    let loop = c .before .before in
+    let more = finding-on (loop .loop .k) (loop .before .before .args .n) (loop .before .before .args .i) (c .before .loop-test .taken) in
+    (omega arith, omega arith, finding-more _ _ _ _ _ (loop .loop .inv .2) (more .0) (c .span-at .ensures))
 
 returns : tie.Need-returns Inv-loop μ-loop
-returns c = finding-end _ _ _ _ _ (c .before .loop .inv .2) (c .before .loop .inv .0) (c .before .loop .inv .1) (finding-stop (c .before .loop .k) (c .before .before .before .args .n) (c .before .before .before .args .i) (c .loop-test .left))
+returns c =
+    let loop = c .before in
+    let stop = finding-stop (loop .loop .k) (loop .before .before .args .n) (loop .before .before .args .i) (c .loop-test .left) in
+    finding-end _ _ _ _ _ (loop .loop .inv .2) (loop .loop .inv .0) (loop .loop .inv .1) stop
 
 pub find-spec : {M : Type 1} → statement M
-find-spec = tie.close (tie.spec Inv-loop μ-loop loop-holds next-place-requires add-k loop-less loop-again returns)
+find-spec = tie.close (tie.spec Inv-loop μ-loop loop-holds (λ c κs. tt) add-k loop-less loop-again returns)

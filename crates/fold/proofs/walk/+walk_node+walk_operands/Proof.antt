@@ -54,10 +54,16 @@ walk-node-walk-reference-requires : (t : ℕ) → walk-node-lts.Need-walk-refere
 walk-node-walk-reference-requires t c κs = reference-fits _ _ _ _ (c .before .before .before .before .pre .1 .parsed) (c .match .keys2)
 
 walk-node-walk-operands-requires : (t : ℕ) → walk-node-lts.Need-walk-operands-requires (walk-node-claims t) (walk-node-at t) walk-node.Post
-walk-node-walk-operands-requires t c κs = (omega (arith, starts _ _ _ _ (c .before .before .before .before .pre .1 .parsed)), (c .before .before .before .before .pre .1, c .match .keys3))
+walk-node-walk-operands-requires t c κs =
+    let start = c .before .before .before .before in
+    (omega (arith, starts _ _ _ _ (start .pre .1 .parsed)), (start .pre .1, c .match .keys3))
 
 walk-node-walk-operands-requires-2 : (t : ℕ) → walk-node-lts.Need-walk-operands-requires-2 (walk-node-claims t) (walk-node-at t) walk-node.Post
-walk-node-walk-operands-requires-2 t c κs = (omega (arith, starts _ _ _ _ (c .before .before .before .before .pre .1 .parsed)), (c .before .before .before .before .pre .1, four _ _ _ _ (c .before .before .before .before .pre .1 .parsed) (c .match .rest .0 .0 .1) (c .match .rest .0 .1) (c .match .rest .1)))
+walk-node-walk-operands-requires-2 t c κs =
+    let start = c .before .before .before .before in
+    let rest = c .match .rest in
+    let tag = four _ _ _ _ (start .pre .1 .parsed) (rest .0 .0 .1) (rest .0 .1) (rest .1) in
+    (omega (arith, starts _ _ _ _ (start .pre .1 .parsed)), (start .pre .1, tag))
 
 walk-node-returns : (t : ℕ) → walk-node-lts.Need-returns (walk-node-claims t) (walk-node-at t) walk-node.Post
 walk-node-returns t c = literal-means _ _ _ _ _ (c .before .match .keys1) (c .walk-literal .ensures)
@@ -72,31 +78,57 @@ walk-node-returns-4 : (t : ℕ) → walk-node-lts.Need-returns-4 (walk-node-clai
 walk-node-returns-4 t c = c .walk-operands2 .ensures
 
 walk-operands-add-op : (t : ℕ) → walk-operands-lts.Need-add-op (walk-operands-claims t) (walk-operands-at t) walk-operands.Post
-walk-operands-add-op t c = omega (arith, operator-there _ _ (c .before .before .pre .1 .0) (c .before .before .args .two) (c .before .before .pre .1 .1))
+walk-operands-add-op t c =
+    let start = c .before .before in
+    omega (arith, operator-there _ _ (start .pre .1 .0) (start .args .two) (start .pre .1 .1))
 
 walk-operands-shared-slice-read-op : (t : ℕ) → walk-operands-lts.Need-shared-slice-read-op (walk-operands-claims t) (walk-operands-at t) walk-operands.Post
-walk-operands-shared-slice-read-op t c = operator-there _ _ (c .before .before .before .pre .1 .0) (c .before .before .before .args .two) (c .before .before .before .pre .1 .1)
+walk-operands-shared-slice-read-op t c =
+    let start = c .before .before .before in
+    operator-there _ _ (start .pre .1 .0) (start .args .two) (start .pre .1 .1)
 
 walk-operands-add-walk-node : (t : ℕ) → walk-operands-lts.Need-add-walk-node (walk-operands-claims t) (walk-operands-at t) walk-operands.Post
-walk-operands-add-walk-node t c = omega (arith, operator-there _ _ (c .before .before .before .pre .1 .0) (c .before .before .before .args .two) (c .before .before .before .pre .1 .1))
+walk-operands-add-walk-node t c =
+    let start = c .before .before .before in
+    omega (arith, operator-there _ _ (start .pre .1 .0) (start .args .two) (start .pre .1 .1))
 
 walk-operands-walk-node-requires : (t : ℕ) → walk-operands-lts.Need-walk-node-requires (walk-operands-claims t) (walk-operands-at t) walk-operands.Post
-walk-operands-walk-node-requires t c κs = (omega (arith, operator-there _ _ (c .before .before .before .pre .1 .0) (c .before .before .before .args .two) (c .before .before .before .pre .1 .1)), first-stands _ _ (c .before .before .before .pre .1 .0) (c .before .before .before .args .two) (c .before .before .before .pre .1 .1))
+walk-operands-walk-node-requires t c κs =
+    let start = c .before .before .before in
+    let node = start .pre .1 .0 in
+    let tag = start .pre .1 .1 in
+    (omega (arith, operator-there _ _ node (start .args .two) tag), first-stands _ _ node (start .args .two) tag)
 
 walk-operands-walk-node-requires-2 : (t : ℕ) → walk-operands-lts.Need-walk-node-requires-2 (walk-operands-claims t) (walk-operands-at t) walk-operands.Post
-walk-operands-walk-node-requires-2 t c κs = (omega (arith, second-later _ _ (c .before .before .before .before .before .before .pre .1 .0) _ _ (c .before .before .before .before .before .before .pre .1 .1 ∙ ap tagByte (c .if1 .taken)) _ (c .before .before .walk-node .ensures), operator-there _ _ (c .before .before .before .before .before .before .pre .1 .0) (c .before .before .before .before .before .before .args .two) (c .before .before .before .before .before .before .pre .1 .1)), second-stands _ _ (c .before .before .before .before .before .before .pre .1 .0) _ _ (c .before .before .before .before .before .before .pre .1 .1 ∙ ap tagByte (c .if1 .taken)) _ (c .before .before .walk-node .ensures))
+walk-operands-walk-node-requires-2 t c κs =
+    let first = c .before .before .walk-node .ensures in
+    let start = c .before .before .before .before .before .before in
+    let node = start .pre .1 .0 in
+    let tag = start .pre .1 .1 in
+    let four = tag ∙ ap tagByte (c .if1 .taken) in
+    let later = second-later _ _ node _ _ four _ first in
+    (omega (arith, later, operator-there _ _ node (start .args .two) tag), second-stands _ _ node _ _ four _ first)
 
 walk-operands-on-two-requires : (t : ℕ) → walk-operands-lts.Need-on-two-requires (walk-operands-claims t) (walk-operands-at t) walk-operands.Post
 walk-operands-on-two-requires t c κs = tt
 
 walk-operands-returns : (t : ℕ) → walk-operands-lts.Need-returns (walk-operands-claims t) (walk-operands-at t) walk-operands.Post
-walk-operands-returns t c = two-means _ _ _ _ _ _ (c .before .before .before .before .before .walk-node .ensures) (c .before .before .before .before .before .before .before .before .before .pre .1 .1 ∙ ap tagByte (c .before .before .before .if1 .taken)) _ (c .before .before .walk-node2 .ensures) (c .on-two .ensures) refl
+walk-operands-returns t c =
+    let second = c .before .before in
+    let two = second .before in
+    let first = two .before .before in
+    let start = first .before .before .before .before in
+    two-means _ _ _ _ _ _ (first .walk-node .ensures) (start .pre .1 .1 ∙ ap tagByte (two .if1 .taken)) _ (second .walk-node2 .ensures) (c .on-two .ensures) refl
 
 walk-operands-on-one-requires : (t : ℕ) → walk-operands-lts.Need-on-one-requires (walk-operands-claims t) (walk-operands-at t) walk-operands.Post
 walk-operands-on-one-requires t c κs = tt
 
 walk-operands-returns-2 : (t : ℕ) → walk-operands-lts.Need-returns-2 (walk-operands-claims t) (walk-operands-at t) walk-operands.Post
-walk-operands-returns-2 t c = one-means _ _ _ _ _ _ (c .before .before .before .walk-node .ensures) (c .before .before .before .before .before .before .before .pre .1 .1 ∙ ap tagByte (c .before .if1 .left)) (c .on-one .ensures) refl
+walk-operands-returns-2 t c =
+    let one = c .before in
+    let first = one .before .before in
+    let start = first .before .before .before .before in
+    one-means _ _ _ _ _ _ (first .walk-node .ensures) (start .pre .1 .1 ∙ ap tagByte (one .if1 .left)) (c .on-one .ensures) refl
 
 pub +walk-node+walk-operands-spec : {M : Type 1} → statement M
 +walk-node+walk-operands-spec = close μ-walk-node μ-walk-operands (λ t. walk-node-lts.spec (walk-node-claims t) (walk-node-at t) walk-node.Post

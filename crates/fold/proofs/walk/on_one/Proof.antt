@@ -4,23 +4,11 @@ use Rattle.fold.proofs.Trees.{one-ends, one-value}
 use Rattle.fold.proofs.walk.on_one.Statement.{statement}
 use Rattle.fold.proofs.walk.on_one.Tie as tie
 
-has-value-requires : tie.Need-has-value-requires
-has-value-requires c κs = search needs
-
-enum-told : tie.Need-enum-told
-enum-told c = search needs
-
-enum-told-2 : tie.Need-enum-told-2
-enum-told-2 c = search needs
-
 returns : tie.Need-returns
 returns c = one-ends _ _ _ _ (c .before .before .has-value .ensures) (c .enum-told2 .given .1)
-
-unary-requires : tie.Need-unary-requires
-unary-requires c κs = search needs
 
 returns-2 : tie.Need-returns-2
 returns-2 c = one-value _ _ _ _ (c .before .before .before .before .has-value .ensures) (c .before .before .enum-told .given .1) _ (c .unary .ensures)
 
 pub on-one-spec : {M : Type 1} → statement M
-on-one-spec = tie.close (tie.spec has-value-requires enum-told enum-told-2 returns unary-requires returns-2)
+on-one-spec = tie.close (tie.spec (λ c κs. search needs) (λ c. search needs) (λ c. search needs) returns (λ c κs. search needs) returns-2)

@@ -4,9 +4,6 @@ use Rattle.fold.proofs.Places.{body-literal, body-stands, body-node}
 use Rattle.fold.proofs.walk.work.Statement.{statement}
 use Rattle.fold.proofs.walk.work.Tie as tie
 
-walk-literal-requires : tie.Need-walk-literal-requires
-walk-literal-requires c κs = search needs
-
 returns : tie.Need-returns
 returns c = body-literal _ _ _ (c .before .before .if1 .taken) _ (c .before .walk-literal .ensures .0)
 
@@ -17,4 +14,4 @@ returns-2 : tie.Need-returns-2
 returns-2 c = body-node _ _ _ (c .before .before .if1 .left) _ (c .before .walk-node .ensures)
 
 pub work-spec : {M : Type 1} → statement M
-work-spec = tie.close (tie.spec walk-literal-requires returns walk-node-requires returns-2)
+work-spec = tie.close (tie.spec (λ c κs. search needs) returns walk-node-requires returns-2)

@@ -5,17 +5,5 @@ use borrow.Author.Needs.{needs}
 use Rattle.integer.proofs.patterns.i64_of_bits.Statement.{statement}
 use Rattle.integer.proofs.patterns.i64_of_bits.Tie as tie
 
-cast-result : tie.Need-cast-result
-cast-result c = search needs
-
-cast-result-2 : tie.Need-cast-result-2
-cast-result-2 c = search needs
-
-returns : tie.Need-returns
-returns c = search needs
-
-returns-2 : tie.Need-returns-2
-returns-2 c = turned w64 _ (c .before .fits .u)
-
 pub i64-of-bits-spec : {M : Type 1} → statement M
-i64-of-bits-spec = tie.close (tie.spec cast-result cast-result-2 returns returns-2)
+i64-of-bits-spec = tie.close (tie.spec (λ c. search needs) (λ c. search needs) (λ c. search needs) (λ c. turned w64 _ (c .before .fits .u)))

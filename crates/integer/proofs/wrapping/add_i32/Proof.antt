@@ -1,6 +1,6 @@
 -- `integer::wrapping::add_i32` meets its contract. Assumes nothing.
 use mir.Syntax.{w32}
-use Rattle.integer.proofs.Wrap.{made, respects-add}
+use Rattle.integer.proofs.Wrap.{wrapped-is, respects-add}
 use borrow.Author.Needs.{needs}
 use Rattle.integer.proofs.wrapping.add_i32.Statement.{statement}
 use Rattle.integer.proofs.wrapping.add_i32.Tie as tie
@@ -18,7 +18,10 @@ i32-of-bits-requires : tie.Need-i32-of-bits-requires
 i32-of-bits-requires c κs = search needs
 
 returns : tie.Need-returns
-returns c = made w32 _ (respects-add w32) (c .before .before .before .before .fits .x) (c .before .before .before .before .fits .y) (c .before .before .before .bits-i32 .ensures) (c .before .before .bits-i322 .ensures) (c .before .add-u32 .ensures) (c .i32-of-bits .ensures)
+returns c =
+    let call = c .before .before .before .before in
+    wrapped-is w32 _ (respects-add w32) (call .fits .x) (call .fits .y) (c .before .before .before .bits-i32 .ensures)
+    (c .before .before .bits-i322 .ensures) (c .before .add-u32 .ensures) (c .i32-of-bits .ensures)
 
 pub add-i32-spec : {M : Type 1} → statement M
 add-i32-spec =

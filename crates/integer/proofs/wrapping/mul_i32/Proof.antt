@@ -1,6 +1,6 @@
 -- `integer::wrapping::mul_i32` meets its contract. Assumes nothing.
 use mir.Syntax.{w32}
-use Rattle.integer.proofs.Wrap.{made, respects-mul}
+use Rattle.integer.proofs.Wrap.{wrapped-is, respects-mul}
 use borrow.Author.Needs.{needs}
 use Rattle.integer.proofs.wrapping.mul_i32.Statement.{statement}
 use Rattle.integer.proofs.wrapping.mul_i32.Tie as tie
@@ -18,7 +18,10 @@ i32-of-bits-requires : tie.Need-i32-of-bits-requires
 i32-of-bits-requires c κs = search needs
 
 returns : tie.Need-returns
-returns c = made w32 _ (respects-mul w32) (c .before .before .before .before .fits .x) (c .before .before .before .before .fits .y) (c .before .before .before .bits-i32 .ensures) (c .before .before .bits-i322 .ensures) (c .before .mul-u32 .ensures) (c .i32-of-bits .ensures)
+returns c =
+    let call = c .before .before .before .before in
+    wrapped-is w32 _ (respects-mul w32) (call .fits .x) (call .fits .y) (c .before .before .before .bits-i32 .ensures)
+    (c .before .before .bits-i322 .ensures) (c .before .mul-u32 .ensures) (c .i32-of-bits .ensures)
 
 pub mul-i32-spec : {M : Type 1} → statement M
 mul-i32-spec =

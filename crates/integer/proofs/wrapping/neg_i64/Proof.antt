@@ -1,7 +1,7 @@
 -- `integer::wrapping::neg_i64` meets its contract. Assumes nothing.
 use mir.Syntax.{w64}
 use mir.Val.{Fits}
-use Rattle.integer.proofs.Wrap.{made-neg}
+use Rattle.integer.proofs.Wrap.{wrapped-neg}
 use borrow.Author.Needs.{needs}
 use Rattle.integer.proofs.wrapping.neg_i64.Statement.{statement}
 use Rattle.integer.proofs.wrapping.neg_i64.Tie as tie
@@ -18,7 +18,7 @@ i64-of-bits-requires c κs = search needs
 returns : tie.Need-returns
 returns c =
     let l : Fits w64 (c .before .wrapping-sub-u64 .result) = search needs in
-    made-neg w64 (c .before .before .before .fits .x) l (c .before .before .bits-i64 .ensures) (c .before .wrapping-sub-u64 .ensures) (c .i64-of-bits .ensures)
+    wrapped-neg w64 (c .before .before .before .fits .x) l (c .before .before .bits-i64 .ensures) (c .before .wrapping-sub-u64 .ensures) (c .i64-of-bits .ensures)
 
 pub neg-i64-spec : {M : Type 1} → statement M
 neg-i64-spec =

@@ -24,11 +24,11 @@ returns c =
 f32-to-f64-with-nan-requires : tie.Need-f32-to-f64-with-nan-requires
 f32-to-f64-with-nan-requires c κs = search needs
 
-f64-to-half-requires : tie.Need-f64-to-half-requires
-f64-to-half-requires c κs = search needs
+half-bits-requires : tie.Need-half-bits-requires
+half-bits-requires c κs = search needs
 
 returns-2 : tie.Need-returns-2
-returns-2 c = c .f64-to-half .ensures ∙ ap (λ (x : Float). toBits half (convert half x)) (c .before .f32-to-f64-with-nan .ensures)
+returns-2 c = c .half-bits .ensures ∙ ap (λ (x : Float). toBits half (convert half x)) (c .before .f32-to-f64-with-nan .ensures)
 
 pub f32-to-half-spec : {M : Type 1} → statement M
 f32-to-half-spec =
@@ -38,5 +38,5 @@ f32-to-half-spec =
     leading-bits-requires
     returns
     f32-to-f64-with-nan-requires
-    f64-to-half-requires
+    half-bits-requires
     returns-2)

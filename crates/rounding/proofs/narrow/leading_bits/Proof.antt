@@ -8,7 +8,8 @@ use lib.Dec.{leb, lit<}
 use borrow.Author.Tests.{le-leb, lt-leb}
 use Rattle.rounding.specs.Kind.{half, single}
 use Rattle.rounding.proofs.Units.{half-sized}
-use Rattle.rounding.proofs.Closest.{le-or-lt, closest-added}
+use Rattle.integer.proofs.Order.{le-or-lt}
+use Rattle.rounding.proofs.Closest.{closest-added}
 use Rattle.rounding.proofs.Leading.{bits-leading}
 use borrow.Author.Needs.{needs}
 use Rattle.rounding.proofs.narrow.leading_bits.Statement.{statement}

@@ -6,7 +6,7 @@ use lib.Count.{leadingZeros, leading-le}
 use lib.Ieee.Nearest.{closest}
 use borrow.Author.Needs.{needs}
 use Rattle.rounding.specs.Pack.{pack}
-use Rattle.rounding.proofs.Normal.{zeros-lt, top-is, wide, narrow, kept-max, nothing, weight-is, product-lt}
+use Rattle.rounding.proofs.Normal.{zeros-lt, top-is, packed-full, packed-few, kept-max, nothing, weight-is, product-lt}
 use Rattle.rounding.proofs.narrow.packed.Statement.{statement}
 use Rattle.rounding.proofs.narrow.packed.Tie as tie
 
@@ -58,9 +58,6 @@ sub-round-whole c = search needs
 round-whole-requires : tie.Need-round-whole-requires
 round-whole-requires c κs = search needs
 
-abbrev m : tie.After-round-whole → ℕ
-m c = c .before .before .before .args .m
-
 dropped-weight : (c : tie.After-round-whole)
     → let g = c .before .before .before .args in (64 + g .a - (g .c + leadingZeros 64 (g .m)) - g .digits) * (1 * 2 ^ (g .digits - 1) % 2 ^ 64) ≤ 2 ^ 36
 dropped-weight c =
@@ -73,11 +70,14 @@ rounded c =
     let g = c .before .before .before .args in
     c .round-whole .ensures ∙ ap (λ (x : ℕ). closest x (2 ^ (64 - g .digits))) (top-is (g .m) (some (c .before .before)) (c .before .before .before .fits .m .fits))
 
+kept : (c : tie.After-round-whole) → let g = c .before .before .before .args in closest (g .m * 2 ^ leadingZeros 64 (g .m)) (2 ^ (64 - g .digits)) ≤ 2 ^ 24
+kept c = let s = c .before .before .before in kept-max (s .args .m) (some (c .before .before)) (s .fits .m .fits) (s .args .digits) (s .pre .2) (s .pre .3)
+
 mul-result : tie.Need-mul-result
 mul-result c = omega (arith, dropped-weight c)
 
 add-result : tie.Need-add-result
-add-result c = omega (arith, dropped-weight c, rounded c, kept-max (m c) (some (c .before .before)) (c .before .before .before .fits .m .fits) (c .before .before .before .args .a) (c .before .before .before .args .c) (c .before .before .before .args .digits) (c .before .before .before .pre .2) (c .before .before .before .pre .3))
+add-result c = omega (arith, dropped-weight c, rounded c, kept c)
 
 sub-round-whole-2 : tie.Need-sub-round-whole-2
 sub-round-whole-2 c = search needs
@@ -92,7 +92,7 @@ returns-2 c =
     let x = 64 + g .a - (g .c + leadingZeros 64 (g .m)) - g .digits in
     ap (λ (w : ℕ). x * w + c .round-whole .result) (weight-is (g .digits) (s .pre .3))
     ∙ ap (λ (r : ℕ). x * 2 ^ (g .digits - 1) + r) (rounded c)
-    ∙ wide (g .m) (some (c .before .before)) (s .fits .m .fits) (g .a) (g .c) (g .digits) (s .pre .2) (s .pre .3) (c .before .if2 .taken)
+    ∙ packed-full (g .m) (some (c .before .before)) (s .fits .m .fits) (g .digits) (s .pre .2) (s .pre .3) (g .a) (g .c) (c .before .if2 .taken)
 
 returns-3 : tie.Need-returns-3
 returns-3 c =
@@ -100,7 +100,7 @@ returns-3 c =
     let g = s .args in
     c .round-whole2 .ensures
     ∙ ap (λ (x : ℕ). closest x (2 ^ (g .c + leadingZeros 64 (g .m) - g .a))) (top-is (g .m) (some (c .before .before)) (s .fits .m .fits))
-    ∙ narrow (g .m) (some (c .before .before)) (s .fits .m .fits) (g .a) (g .c) (g .digits) (s .pre .2) (s .pre .3) (c .before .if2 .left)
+    ∙ packed-few (g .m) (some (c .before .before)) (s .fits .m .fits) (g .digits) (s .pre .2) (s .pre .3) (g .a) (g .c) (c .before .if2 .left)
 
 pub packed-spec : {M : Type 1} → statement M
 packed-spec =

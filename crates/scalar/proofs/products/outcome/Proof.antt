@@ -1,6 +1,6 @@
 -- `scalar::products::outcome` meets its contract. Assumes nothing.
 use mathlib.Core.Path.{_∙_}
-use Rattle.scalar.proofs.Choice.{picked, passed}
+use Rattle.types.proofs.Choice.{picked, passed}
 use borrow.Author.Needs.{needs}
 use Rattle.scalar.proofs.products.outcome.Statement.{statement}
 use Rattle.scalar.proofs.products.outcome.Tie as tie

@@ -1,75 +1,64 @@
 -- `shape::scalars::binary` meets its contract. Assumes nothing.
 use mathlib.Core.Path.{sym, ap, _∙_}
 use borrow.Author.Tests.{not-false}
-use Rattle.shape.specs.Meaning.{stepAnswer, binaryMeaning}
-use Rattle.shape.proofs.Checks.{need-no, need-yes}
-use Rattle.shape.proofs.OnScalars.{good-one}
 use borrow.Author.Needs.{needs}
+use Rattle.operand.proofs.Shapes.{formed-one}
+use Rattle.dispatch.specs.Meaning.{binaryMeaning}
+use Rattle.dispatch.proofs.Checks.{refuses, passes}
+use Rattle.shape.specs.Scalars.{stepAnswer}
 use Rattle.shape.proofs.scalars.binary.Statement.{statement}
 use Rattle.shape.proofs.scalars.binary.Tie as tie
 
-op-known-requires : tie.Need-op-known-requires
-op-known-requires c κs = search needs
-
-refuse-requires : tie.Need-refuse-requires
-refuse-requires c κs = search needs
-
-returns : tie.Need-returns
+no-operator : tie.Need-returns
 unfolding binaryMeaning
-returns c = need-no _ _ (c .before .before .op-known .ensures) _ _ _ (c .before .if1 .taken) (ap stepAnswer (c .refuse .ensures))
+no-operator c = refuses _ _ (c .before .before .op-known .ensures) _ _ _ (c .before .if1 .taken) (ap stepAnswer (c .refuse .ensures))
 
-stage-known-requires : tie.Need-stage-known-requires
-stage-known-requires c κs = search needs
-
-refuse-requires-2 : tie.Need-refuse-requires-2
-refuse-requires-2 c κs = search needs
-
-returns-2 : tie.Need-returns-2
+no-stage : tie.Need-returns-2
 unfolding binaryMeaning
-returns-2 c = need-yes _ _ (c .before .before .before .before .op-known .ensures) _ _ _ (c .before .before .before .if1 .left) (need-no _ _ (c .before .before .stage-known .ensures) _ _ _ (c .before .if2 .taken) (ap stepAnswer (c .refuse2 .ensures)))
+no-stage c =
+    let s = c .before .before in
+    passes _ _ (s .before .before .op-known .ensures) _ _ _ (s .before .if1 .left)
+    (refuses _ _ (s .stage-known .ensures) _ _ _ (c .before .if2 .taken) (ap stepAnswer (c .refuse2 .ensures)))
 
-proper-requires : tie.Need-proper-requires
-proper-requires c κs = search needs
-
-refuse-requires-3 : tie.Need-refuse-requires-3
-refuse-requires-3 c κs = search needs
-
-returns-3 : tie.Need-returns-3
+left-malformed : tie.Need-returns-3
 unfolding binaryMeaning
-returns-3 c = need-yes _ _ (c .before .before .before .before .before .before .op-known .ensures) _ _ _ (c .before .before .before .before .before .if1 .left) (need-yes _ _ (c .before .before .before .before .stage-known .ensures) _ _ _ (c .before .before .before .if2 .left) (need-no _ _ (c .before .before .proper .ensures ∙ sym (good-one _ _)) _ _ _ (c .before .if3 .taken) (ap stepAnswer (c .refuse3 .ensures))))
+left-malformed c =
+    let l = c .before .before in
+    let s = l .before .before in
+    passes _ _ (s .before .before .op-known .ensures) _ _ _ (s .before .if1 .left)
+    (passes _ _ (s .stage-known .ensures) _ _ _ (l .before .if2 .left)
+    (refuses _ _ (l .proper .ensures ∙ sym (formed-one _ _)) _ _ _ (c .before .if3 .taken) (ap stepAnswer (c .refuse3 .ensures))))
 
-proper-requires-2 : tie.Need-proper-requires-2
-proper-requires-2 c κs = search needs
-
-refuse-requires-4 : tie.Need-refuse-requires-4
-refuse-requires-4 c κs = search needs
-
-returns-4 : tie.Need-returns-4
+right-malformed : tie.Need-returns-4
 unfolding binaryMeaning
-returns-4 c = need-yes _ _ (c .before .before .before .before .before .before .before .before .op-known .ensures) _ _ _ (c .before .before .before .before .before .before .before .if1 .left) (need-yes _ _ (c .before .before .before .before .before .before .stage-known .ensures) _ _ _ (c .before .before .before .before .before .if2 .left) (need-yes _ _ (c .before .before .before .before .proper .ensures ∙ sym (good-one _ _)) _ _ _ (c .before .before .before .if3 .left) (need-no _ _ (c .before .before .proper2 .ensures ∙ sym (good-one _ _)) _ _ _ (c .before .if4 .taken) (ap stepAnswer (c .refuse4 .ensures)))))
+right-malformed c =
+    let r = c .before .before in
+    let l = r .before .before in
+    let s = l .before .before in
+    passes _ _ (s .before .before .op-known .ensures) _ _ _ (s .before .if1 .left)
+    (passes _ _ (s .stage-known .ensures) _ _ _ (l .before .if2 .left)
+    (passes _ _ (l .proper .ensures ∙ sym (formed-one _ _)) _ _ _ (r .before .if3 .left)
+    (refuses _ _ (r .proper2 .ensures ∙ sym (formed-one _ _)) _ _ _ (c .before .if4 .taken) (ap stepAnswer (c .refuse4 .ensures)))))
 
 judge-requires : tie.Need-judge-requires
-judge-requires c κs = (good-one _ _ ∙ sym (c .before .before .before .proper .ensures) ∙ not-false _ (c .before .before .if3 .left), good-one _ _ ∙ sym (c .before .proper2 .ensures) ∙ not-false _ (c .if4 .left))
+judge-requires c κs =
+    let r = c .before in
+    let l = r .before .before in
+    (formed-one _ _ ∙ sym (l .proper .ensures) ∙ not-false _ (r .before .if3 .left), formed-one _ _ ∙ sym (r .proper2 .ensures) ∙ not-false _ (c .if4 .left))
 
-returns-5 : tie.Need-returns-5
+judged : tie.Need-returns-5
 unfolding binaryMeaning
-returns-5 c = need-yes _ _ (c .before .before .before .before .before .before .before .before .op-known .ensures) _ _ _ (c .before .before .before .before .before .before .before .if1 .left) (need-yes _ _ (c .before .before .before .before .before .before .stage-known .ensures) _ _ _ (c .before .before .before .before .before .if2 .left) (need-yes _ _ (c .before .before .before .before .proper .ensures ∙ sym (good-one _ _)) _ _ _ (c .before .before .before .if3 .left) (need-yes _ _ (c .before .before .proper2 .ensures ∙ sym (good-one _ _)) _ _ _ (c .before .if4 .left) (c .judge .ensures))))
+judged c =
+    let r = c .before .before in
+    let l = r .before .before in
+    let s = l .before .before in
+    passes _ _ (s .before .before .op-known .ensures) _ _ _ (s .before .if1 .left)
+    (passes _ _ (s .stage-known .ensures) _ _ _ (l .before .if2 .left)
+    (passes _ _ (l .proper .ensures ∙ sym (formed-one _ _)) _ _ _ (r .before .if3 .left)
+    (passes _ _ (r .proper2 .ensures ∙ sym (formed-one _ _)) _ _ _ (c .before .if4 .left) (c .judge .ensures))))
 
 pub binary-spec : {M : Type 1} → statement M
 binary-spec =
     tie.close
-    (tie.spec
-    op-known-requires
-    refuse-requires
-    returns
-    stage-known-requires
-    refuse-requires-2
-    returns-2
-    proper-requires
-    refuse-requires-3
-    returns-3
-    proper-requires-2
-    refuse-requires-4
-    returns-4
-    judge-requires
-    returns-5)
+    (tie.spec (λ c κs. search needs) (λ c κs. search needs) no-operator (λ c κs. search needs) (λ c κs. search needs) no-stage
+    (λ c κs. search needs) (λ c κs. search needs) left-malformed (λ c κs. search needs) (λ c κs. search needs) right-malformed judge-requires judged)

@@ -1,50 +1,33 @@
 -- `shape::scalars::operate` meets its contract. Assumes nothing.
 use mathlib.Core.Path.{sym, ap, _∙_}
 use Prim.Native.Nat.{ℕ}
-use Rattle.shape.specs.Meaning.{oneOf, stepAnswer}
-use Rattle.shape.proofs.Checks.{need-no, need-yes}
-use Rattle.shape.proofs.OnScalars.{step-refused, step-bits, operated}
 use borrow.Author.Needs.{needs}
+use Rattle.dispatch.proofs.Checks.{refuses, passes}
+use Rattle.shape.specs.Scalars.{scalarAnswer, stepAnswer}
+use Rattle.shape.proofs.OnScalars.{step-refused, step-bits, operated}
 use Rattle.shape.proofs.scalars.operate.Statement.{statement}
 use Rattle.shape.proofs.scalars.operate.Tie as tie
 
-right-requires : tie.Need-right-requires
-right-requires c κs = search needs
+no-right : tie.Need-returns
+no-right c =
+    refuses _ _ (c .before .before .right .ensures) _ _ _ (c .before .if1 .taken) (ap stepAnswer (c .refuse .ensures)) ∙ sym (operated _ _ _ _ _)
 
-refuse-requires : tie.Need-refuse-requires
-refuse-requires c κs = search needs
+refused : tie.Need-returns-2
+refused c =
+    let s = c .before .before in
+    passes _ _ (s .before .before .right .ensures) _ _ _ (s .before .if1 .left)
+    (step-refused _ _ (s .binary-step .ensures) _ _ (c .enum-told .given .1)) ∙ sym (operated _ _ _ _ _)
 
-returns : tie.Need-returns
-returns c = need-no _ _ (c .before .before .right .ensures) _ _ _ (c .before .if1 .taken) (ap stepAnswer (c .refuse .ensures)) ∙ sym (operated _ _ _ _ _)
-
-binary-step-requires : tie.Need-binary-step-requires
-binary-step-requires c κs = search needs
-
-enum-known-step : tie.Need-enum-known-step
-enum-known-step c = search needs
-
-enum-told : tie.Need-enum-told
-enum-told c = search needs
-
-returns-2 : tie.Need-returns-2
-returns-2 c = need-yes _ _ (c .before .before .before .before .right .ensures) _ _ _ (c .before .before .before .if1 .left) (step-refused _ _ (c .before .before .binary-step .ensures) _ _ (c .enum-told .given .1)) ∙ sym (operated _ _ _ _ _)
-
-result-type-requires : tie.Need-result-type-requires
-result-type-requires c κs = search needs
-
-returns-3 : tie.Need-returns-3
-returns-3 c = need-yes _ _ (c .before .before .before .before .before .before .right .ensures) _ _ _ (c .before .before .before .before .before .if1 .left) (step-bits _ _ (c .before .before .before .before .binary-step .ensures) _ _ _ _ (c .before .before .step .given .1) (ap (λ (y : ℕ). oneOf y (c .before .before .step .given .0 .1 .0)) (c .result-type .ensures))) ∙ sym (operated _ _ _ _ _)
+answered : tie.Need-returns-3
+answered c =
+    let b = c .before .before in
+    let s = b .before .before in
+    let t = ap (λ (y : ℕ). scalarAnswer y (b .step .given .0 .1 .0)) (c .result-type .ensures) in
+    passes _ _ (s .before .before .right .ensures) _ _ _ (s .before .if1 .left)
+    (step-bits _ _ (s .binary-step .ensures) _ _ _ _ (b .step .given .1) t) ∙ sym (operated _ _ _ _ _)
 
 pub operate-spec : {M : Type 1} → statement M
 operate-spec =
     tie.close
-    (tie.spec
-    right-requires
-    refuse-requires
-    returns
-    binary-step-requires
-    enum-known-step
-    enum-told
-    returns-2
-    result-type-requires
-    returns-3)
+    (tie.spec (λ c κs. search needs) (λ c κs. search needs) no-right
+    (λ c κs. search needs) (λ c. search needs) (λ c. search needs) refused (λ c κs. search needs) answered)

@@ -3,18 +3,6 @@ use borrow.Author.Needs.{needs}
 use Rattle.shape.proofs.scalars.settled.Statement.{statement}
 use Rattle.shape.proofs.scalars.settled.Tie as tie
 
-enum-known-step : tie.Need-enum-known-step
-enum-known-step c = search needs
-
-one-requires : tie.Need-one-requires
-one-requires c κs = search needs
-
-enum-known-step-2 : tie.Need-enum-known-step-2
-enum-known-step-2 c = search needs
-
-refused-requires : tie.Need-refused-requires
-refused-requires c κs = search needs
-
 returns : tie.Need-returns
 returns c = rw (c .before .before .step .given .1) (c .one .ensures)
 
@@ -23,5 +11,4 @@ returns-2 c = rw (c .before .before .step2 .given .1) (c .refused .ensures)
 
 pub settled-spec : {M : Type 1} → statement M
 settled-spec =
-    tie.close
-    (tie.spec enum-known-step one-requires enum-known-step-2 refused-requires returns returns-2)
+    tie.close (tie.spec (λ c. search needs) (λ c κs. search needs) (λ c. search needs) (λ c κs. search needs) returns returns-2)

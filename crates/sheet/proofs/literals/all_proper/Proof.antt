@@ -11,10 +11,10 @@ use Rattle.sheet.proofs.literals.all_proper.Statement.{statement}
 use Rattle.sheet.proofs.literals.all_proper.Tie as tie
 
 abbrev Inv-loop : tie.InvT-loop
-Inv-loop b at n ty p₀ left₀ p left = (allProper ty n b at ≡ allProper ty left b p) × (p + 8 * left ≤ length b)
+Inv-loop b at n ty p₀ more₀ p more = (allProper ty n b at ≡ allProper ty more b p) × (p + 8 * more ≤ length b)
 
 abbrev μ-loop : tie.MeasureT-loop
-μ-loop b at n ty p₀ left₀ p left = left
+μ-loop b at n ty p₀ more₀ p more = more
 
 loop-holds : tie.Need-loop-holds Inv-loop μ-loop
 loop-holds c = search needs
@@ -26,19 +26,24 @@ proper-requires : tie.Need-proper-requires Inv-loop μ-loop
 proper-requires c κs = search needs
 
 returns : tie.Need-returns Inv-loop μ-loop
-returns c = sym (c .before .before .before .before .loop .inv .0 ∙ first-bad _ _ _ _ _ _ (c .before .before .before .loop-test .taken) (c .before .before .word-at .ensures) (c .before .proper .ensures) (not-true _ (c .if1 .taken)))
+returns c =
+    let l = c .before .before .before in
+    sym (l .before .loop .inv .0 ∙ first-bad _ _ _ _ _ _ (l .loop-test .taken) (c .before .before .word-at .ensures) (c .before .proper .ensures) (not-true _ (c .if1 .taken)))
 
 add-p : tie.Need-add-p Inv-loop μ-loop
 add-p c = omega arith
 
-sub-left : tie.Need-sub-left Inv-loop μ-loop
-sub-left c = omega arith
+sub-more : tie.Need-sub-more Inv-loop μ-loop
+sub-more c = omega arith
 
 loop-less : tie.Need-loop-less Inv-loop μ-loop
 loop-less c = omega arith
 
 loop-again : tie.Need-loop-again Inv-loop μ-loop
-loop-again c = (c .before .before .before .before .loop .inv .0 ∙ first-good _ _ _ _ _ _ (c .before .before .before .loop-test .taken) (c .before .before .word-at .ensures) (c .before .proper .ensures) (not-false _ (c .if1 .left)), omega arith)
+loop-again c =
+    let l = c .before .before .before in
+    let one = first-good _ _ _ _ _ _ (l .loop-test .taken) (c .before .before .word-at .ensures) (c .before .proper .ensures) (not-false _ (c .if1 .left)) in
+    (l .before .loop .inv .0 ∙ one, omega arith)
 
 returns-2 : tie.Need-returns-2 Inv-loop μ-loop
 returns-2 c = sym (c .before .loop .inv .0 ∙ none-proper _ _ _ _ (c .loop-test .left))
@@ -54,7 +59,7 @@ all-proper-spec =
     proper-requires
     returns
     add-p
-    sub-left
+    sub-more
     loop-less
     loop-again
     returns-2)

@@ -1,6 +1,6 @@
 -- The value of a literal that was judged, and zeros for one that was refused.
 use native.Mathlib.Omega.{arith}
-use Rattle.sheet.proofs.Inverse.{none-loaded, loads, loads-small, is-loaded}
+use Rattle.sheet.proofs.Inverse.{refused-loads, loads-head, loads-fits, is-loaded}
 use borrow.Author.Needs.{needs}
 use Rattle.sheet.proofs.literals.literal_at.Statement.{statement}
 use Rattle.sheet.proofs.literals.literal_at.Tie as tie
@@ -15,37 +15,27 @@ enum-told : tie.Need-enum-told
 enum-told c = search needs
 
 returns : tie.Need-returns
-returns c = none-loaded _ _ _ (c .before .before .read-literal .ensures) _ _ (c .enum-told .given .1)
+returns c = refused-loads _ _ _ (c .before .before .read-literal .ensures) _ _ (c .enum-told .given .1)
 
-add-ty : tie.Need-add-ty
-add-ty c = omega (arith, loads _ _ _ (c .before .before .before .read-literal .ensures) _ (c .before .next .given .1) .1 .head)
-
-shared-slice-read-ty : tie.Need-shared-slice-read-ty
-shared-slice-read-ty c = omega (arith, loads _ _ _ (c .before .before .before .before .read-literal .ensures) _ (c .before .before .next .given .1) .1 .head)
-
-add-cols : tie.Need-add-cols
-add-cols c = omega (arith, loads _ _ _ (c .before .before .before .before .read-literal .ensures) _ (c .before .before .next .given .1) .1 .head)
-
-shared-slice-read-cols : tie.Need-shared-slice-read-cols
-shared-slice-read-cols c = omega (arith, loads _ _ _ (c .before .before .before .before .before .read-literal .ensures) _ (c .before .before .before .next .given .1) .1 .head)
-
-add-rows : tie.Need-add-rows
-add-rows c = omega (arith, loads _ _ _ (c .before .before .before .before .before .read-literal .ensures) _ (c .before .before .before .next .given .1) .1 .head)
-
-shared-slice-read-rows : tie.Need-shared-slice-read-rows
-shared-slice-read-rows c = omega (arith, loads _ _ _ (c .before .before .before .before .before .before .read-literal .ensures) _ (c .before .before .before .before .next .given .1) .1 .head)
+literal-head-requires : tie.Need-literal-head-requires
+literal-head-requires c κs = loads-head _ _ _ (c .before .before .before .read-literal .ensures) _ (c .before .next .given .1)
 
 add-load : tie.Need-add-load
-add-load c = omega (arith, loads _ _ _ (c .before .before .before .before .before .before .read-literal .ensures) _ (c .before .before .before .before .next .given .1) .1 .head)
+add-load c = let i = c .before .before in omega (arith, loads-head _ _ _ (i .before .before .read-literal .ensures) _ (i .next .given .1))
 
 area-requires : tie.Need-area-requires
 area-requires c κs = search needs
 
 load-requires : tie.Need-load-requires
-load-requires c κs = (omega (arith, c .area .ensures .0, loads-small _ _ _ (c .before .before .before .before .before .before .before .read-literal .ensures) _ (c .before .before .before .before .before .next .given .1)), omega (arith, c .area .ensures .0, loads _ _ _ (c .before .before .before .before .before .before .before .read-literal .ensures) _ (c .before .before .before .before .before .next .given .1) .1 .whole))
+load-requires c κs =
+    let i = c .before .before .before in
+    loads-fits _ _ _ (i .before .before .read-literal .ensures) _ (i .next .given .1) _ (c .before .literal-head .ensures) _ (c .area .ensures .0)
 
 returns-2 : tie.Need-returns-2
-returns-2 c = is-loaded _ _ _ (c .before .before .before .before .before .before .before .before .read-literal .ensures) _ (c .before .before .before .before .before .before .next .given .1) _ _ (c .before .area .ensures .0) (c .load .ensures)
+returns-2 c =
+    let i = c .before .before .before .before in
+    is-loaded _ _ _ (i .before .before .read-literal .ensures) _ (i .next .given .1) _ (c .before .before .literal-head .ensures) _ (c .before .area .ensures .0)
+    _ (c .load .ensures)
 
 pub literal-at-spec : {M : Type 1} → statement M
 literal-at-spec =
@@ -55,12 +45,7 @@ literal-at-spec =
     enum-known-next
     enum-told
     returns
-    add-ty
-    shared-slice-read-ty
-    add-cols
-    shared-slice-read-cols
-    add-rows
-    shared-slice-read-rows
+    literal-head-requires
     add-load
     area-requires
     load-requires

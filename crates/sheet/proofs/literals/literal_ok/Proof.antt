@@ -1,5 +1,5 @@
 -- A literal's type and shape.
-use Rattle.sheet.proofs.Components.{ok-by-shape}
+use Rattle.sheet.proofs.Components.{ok-by-tests}
 use borrow.Author.Needs.{needs}
 use Rattle.sheet.proofs.literals.literal_ok.Statement.{statement}
 use Rattle.sheet.proofs.literals.literal_ok.Tie as tie
@@ -7,8 +7,14 @@ use Rattle.sheet.proofs.literals.literal_ok.Tie as tie
 shape-ok-requires : tie.Need-shape-ok-requires
 shape-ok-requires c κs = search needs
 
+concrete-requires : tie.Need-concrete-requires
+concrete-requires c κs = search needs
+
 returns : tie.Need-returns
-returns c = ok-by-shape _ (c .before .args .setting) (c .before .args .ty) (c .before .args .cols) (c .before .args .rows) (c .shape-ok .ensures)
+returns c =
+    let t = c .before .before in
+    let a = t .before .before .args in
+    ok-by-tests _ _ (a .setting) (a .h) (t .before .shape-ok .ensures) (t .concrete .ensures)
 
 pub literal-ok-spec : {M : Type 1} → statement M
-literal-ok-spec = tie.close (tie.spec shape-ok-requires returns)
+literal-ok-spec = tie.close (tie.spec shape-ok-requires concrete-requires returns)

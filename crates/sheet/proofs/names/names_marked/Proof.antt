@@ -1,6 +1,6 @@
 -- The pass over a body that can be read.
 use mathlib.Core.Path.{sym, _∙_}
-use Rattle.sheet.proofs.Passes.{none-named}
+use Rattle.sheet.proofs.Passes.{nothing-named}
 use borrow.Author.Needs.{needs}
 use Rattle.sheet.proofs.names.names_marked.Statement.{statement}
 use Rattle.sheet.proofs.names.names_marked.Tie as tie
@@ -18,7 +18,7 @@ enum-told : tie.Need-enum-told
 enum-told c = search needs
 
 returns : tie.Need-returns
-returns c = none-named _ _ _ _ _ (c .before .before .read-node .ensures) (c .enum-told .given .1)
+returns c = nothing-named _ _ _ _ _ (c .before .before .read-node .ensures) (c .enum-told .given .1)
 
 scan-requires : tie.Need-scan-requires
 scan-requires c κs = sym (c .before .end .given .1) ∙ c .before .before .before .read-node .ensures

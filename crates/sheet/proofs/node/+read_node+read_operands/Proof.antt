@@ -7,7 +7,8 @@ use borrow.Author.Needs.{needs}
 use borrow.Author.Tests.{not-true, not-false}
 use Rattle.sheet.specs.Read.{seenOf}
 use Rattle.sheet.specs.Node.{readNode}
-use Rattle.sheet.proofs.Nodes.{node-cut, seen-literal, seen-reference, seen-unary, seen-binary, seen-unknown, operator-cut, operator-bad, operator-one, operator-two, operator-two-not, read-past}
+use Rattle.sheet.proofs.Nodes.{node-cut, seen-literal, seen-reference, seen-unary, seen-binary, seen-unknown, read-past}
+use Rattle.sheet.proofs.Nodes.{operator-cut, operator-bad, operator-one, operator-two, operator-two-not}
 use borrow.Fn.Kinds.{In}
 use borrow.Fn.PlainCycle.{Measures, is, falls, and}
 use Rattle.sheet.proofs.node.read_node.Reads as read-node
@@ -16,7 +17,7 @@ use Rattle.sheet.proofs.node.+read_node+read_operands.Lts-read_node as 
 use Rattle.sheet.proofs.node.read_operands.Reads as read-operands
 use Rattle.sheet.proofs.node.read_operands.Kinds as read-operands-kinds
 use Rattle.sheet.proofs.node.+read_node+read_operands.Lts-read_operands as read-operands-lts
-use Rattle.sheet.proofs.bytes.left.Reads as left-reads
+use Rattle.sheet.proofs.bytes.remaining.Reads as remaining-reads
 use Rattle.sheet.proofs.literals.read_literal.Reads as read-literal-reads
 use Rattle.sheet.proofs.node.known_operator.Reads as known-operator-reads
 use Rattle.sheet.proofs.node.read_reference.Reads as read-reference-reads
@@ -49,14 +50,23 @@ read-operands-below t =
     read-operands.Pre
 
 abbrev read-node-claims : ℕ → read-node-lts.Claims
-read-node-claims t = (left-reads.Asked, left-reads.Learnt, read-literal-reads.Asked, read-literal-reads.Learnt, read-reference-reads.Asked, read-reference-reads.Learnt, read-operands-below t, read-operands.Post)
+read-node-claims t = (
+  remaining-reads.Asked,
+  remaining-reads.Learnt,
+  read-literal-reads.Asked,
+  read-literal-reads.Learnt,
+  read-reference-reads.Asked,
+  read-reference-reads.Learnt,
+  read-operands-below t,
+  read-operands.Post,
+)
 
 read-node-returns : (t : ℕ) → read-node-lts.Need-returns (read-node-claims t) (read-node-at t) read-node.Post
 unfolding readNode
 read-node-returns t c = simp (c .if1 .taken)
 
-read-node-left-requires : (t : ℕ) → read-node-lts.Need-left-requires (read-node-claims t) (read-node-at t) read-node.Post
-read-node-left-requires t c κs = tt
+read-node-remaining-requires : (t : ℕ) → read-node-lts.Need-remaining-requires (read-node-claims t) (read-node-at t) read-node.Post
+read-node-remaining-requires t c κs = tt
 
 read-node-returns-2 : (t : ℕ) → read-node-lts.Need-returns-2 (read-node-claims t) (read-node-at t) read-node.Post
 read-node-returns-2 t c = ap seenOf (sym (node-cut _ _ _ _ _ (c .before .before .if1 .left) (omega arith)))
@@ -95,16 +105,18 @@ read-node-returns-6 : (t : ℕ) → read-node-lts.Need-returns-6 (read-node-clai
 read-node-returns-6 t c = c .read-operands2 .ensures ∙ sym (seen-binary _ _ _ _ _ (c .before .before .before .before .before .if1 .left) (omega arith) (c .before .match .keys4))
 
 read-node-returns-7 : (t : ℕ) → read-node-lts.Need-returns-7 (read-node-claims t) (read-node-at t) read-node.Post
-read-node-returns-7 t c = sym (seen-unknown _ _ _ _ _ (c .before .before .before .before .if1 .left) (omega arith) (c .match .rest .0 .0 .0 .1) (c .match .rest .0 .0 .1) (c .match .rest .0 .1) (c .match .rest .1))
+read-node-returns-7 t c =
+    let others = c .match .rest in
+    sym (seen-unknown _ _ _ _ _ (c .before .before .before .before .if1 .left) (omega arith) (others .0 .0 .0 .1) (others .0 .0 .1) (others .0 .1) (others .1))
 
 abbrev read-operands-claims : ℕ → read-operands-lts.Claims
-read-operands-claims t = (left-reads.Asked, left-reads.Learnt, known-operator-reads.Asked, known-operator-reads.Learnt, read-node-below t, read-node.Post)
+read-operands-claims t = (remaining-reads.Asked, remaining-reads.Learnt, known-operator-reads.Asked, known-operator-reads.Learnt, read-node-below t, read-node.Post)
 
-read-operands-left-requires : (t : ℕ) → read-operands-lts.Need-left-requires (read-operands-claims t) (read-operands-at t) read-operands.Post
-read-operands-left-requires t c κs = tt
+read-operands-remaining-requires : (t : ℕ) → read-operands-lts.Need-remaining-requires (read-operands-claims t) (read-operands-at t) read-operands.Post
+read-operands-remaining-requires t c κs = tt
 
 read-operands-returns : (t : ℕ) → read-operands-lts.Need-returns (read-operands-claims t) (read-operands-at t) read-operands.Post
-read-operands-returns t c = ap seenOf (sym (operator-cut _ _ _ _ (omega arith)))
+read-operands-returns t c = operator-cut _ _ _ _ (omega arith)
 
 read-operands-add-known-operator : (t : ℕ) → read-operands-lts.Need-add-known-operator (read-operands-claims t) (read-operands-at t) read-operands.Post
 read-operands-add-known-operator t c = omega arith
@@ -116,7 +128,7 @@ read-operands-known-operator-requires : (t : ℕ) → read-operands-lts.Need-kno
 read-operands-known-operator-requires t c κs = tt
 
 read-operands-returns-2 : (t : ℕ) → read-operands-lts.Need-returns-2 (read-operands-claims t) (read-operands-at t) read-operands.Post
-read-operands-returns-2 t c = ap seenOf (sym (operator-bad _ _ _ _ (omega arith) (sym (c .before .known-operator .ensures) ∙ not-true _ (c .if2 .taken))))
+read-operands-returns-2 t c = operator-bad _ _ _ _ (omega arith) _ (c .before .known-operator .ensures) (not-true _ (c .if2 .taken))
 
 read-operands-add-read-node : (t : ℕ) → read-operands-lts.Need-add-read-node (read-operands-claims t) (read-operands-at t) read-operands.Post
 read-operands-add-read-node t c = omega arith
@@ -131,16 +143,29 @@ read-operands-enum-told : (t : ℕ) → read-operands-lts.Need-enum-told (read-o
 read-operands-enum-told t c = search needs
 
 read-operands-returns-3 : (t : ℕ) → read-operands-lts.Need-returns-3 (read-operands-claims t) (read-operands-at t) read-operands.Post
-read-operands-returns-3 t c = operator-two-not _ _ _ _ (omega arith) (sym (c .before .before .before .before .before .known-operator .ensures) ∙ not-false _ (c .before .before .before .before .if2 .left)) _ _ _ (c .before .before .if3 .taken) (c .before .before .before .read-node .ensures) (c .enum-told .given .1)
+read-operands-returns-3 t c =
+    let first = c .before .before .before in
+    let op = first .before .before in
+    operator-two-not _ _ _ _ (omega arith) _ (op .known-operator .ensures) (not-false _ (first .before .if2 .left)) (c .before .before .if3 .taken) _
+    (first .read-node .ensures) _ _ (c .enum-told .given .1)
 
 read-operands-read-node-requires-2 : (t : ℕ) → read-operands-lts.Need-read-node-requires-2 (read-operands-claims t) (read-operands-at t) read-operands.Post
-read-operands-read-node-requires-2 t c κs = (omega (arith, read-past _ _ _ _ _ _ (omega arith) (sym (c .before .first .given .1) ∙ c .before .before .before .before .read-node .ensures)), tt)
+read-operands-read-node-requires-2 t c κs =
+    let first = c .before .before .before .before in
+    (omega (arith, read-past _ _ _ _ _ _ (omega arith) (sym (c .before .first .given .1) ∙ first .read-node .ensures)), tt)
 
 read-operands-returns-4 : (t : ℕ) → read-operands-lts.Need-returns-4 (read-operands-claims t) (read-operands-at t) read-operands.Post
-read-operands-returns-4 t c = c .read-node2 .ensures ∙ sym (operator-two _ _ _ _ (omega arith) (sym (c .before .before .before .before .before .before .before .known-operator .ensures) ∙ not-false _ (c .before .before .before .before .before .before .if2 .left)) _ (c .before .before .before .before .if3 .taken) (sym (c .before .before .first .given .1) ∙ c .before .before .before .before .before .read-node .ensures))
+read-operands-returns-4 t c =
+    let first = c .before .before .before .before .before in
+    let op = first .before .before in
+    c .read-node2 .ensures
+    ∙ operator-two _ _ _ _ (omega arith) _ (op .known-operator .ensures) (not-false _ (first .before .if2 .left)) (c .before .before .before .before .if3 .taken) _
+    (first .read-node .ensures) _ (c .before .before .first .given .1)
 
 read-operands-returns-5 : (t : ℕ) → read-operands-lts.Need-returns-5 (read-operands-claims t) (read-operands-at t) read-operands.Post
-read-operands-returns-5 t c = c .before .read-node .ensures ∙ sym (operator-one _ _ _ _ (omega arith) (sym (c .before .before .before .known-operator .ensures) ∙ not-false _ (c .before .before .if2 .left)) (c .if3 .left))
+read-operands-returns-5 t c =
+    let op = c .before .before .before in
+    c .before .read-node .ensures ∙ operator-one _ _ _ _ (omega arith) _ (op .known-operator .ensures) (not-false _ (c .before .before .if2 .left)) (c .if3 .left)
 
 pub +read-node+read-operands-spec : {M : Type 1} → statement M
 +read-node+read-operands-spec =
@@ -149,7 +174,7 @@ pub +read-node+read-operands-spec : {M : Type 1} → statement M
     μ-read-operands
     (λ t. read-node-lts.spec (read-node-claims t) (read-node-at t) read-node.Post
     (read-node-returns t)
-    (read-node-left-requires t)
+    (read-node-remaining-requires t)
     (read-node-returns-2 t)
     (read-node-shared-slice-read-tag t)
     (read-node-read-literal-requires t)
@@ -164,7 +189,7 @@ pub +read-node+read-operands-spec : {M : Type 1} → statement M
     (read-node-returns-6 t)
     (read-node-returns-7 t))
     (λ t. read-operands-lts.spec (read-operands-claims t) (read-operands-at t) read-operands.Post
-    (read-operands-left-requires t)
+    (read-operands-remaining-requires t)
     (read-operands-returns t)
     (read-operands-add-known-operator t)
     (read-operands-shared-slice-read-known-operator t)

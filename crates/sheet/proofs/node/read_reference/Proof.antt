@@ -8,8 +8,8 @@ use borrow.Author.Needs.{needs}
 use Rattle.sheet.proofs.node.read_reference.Statement.{statement}
 use Rattle.sheet.proofs.node.read_reference.Tie as tie
 
-left-requires : tie.Need-left-requires
-left-requires c κs = search needs
+remaining-requires : tie.Need-remaining-requires
+remaining-requires c κs = search needs
 
 returns : tie.Need-returns
 returns c = ap seenOf (sym (reference-cut _ _ _ _ (omega arith)))
@@ -42,7 +42,7 @@ pub read-reference-spec : {M : Type 1} → statement M
 read-reference-spec =
     tie.close
     (tie.spec
-    left-requires
+    remaining-requires
     returns
     add-k
     shared-slice-read-k

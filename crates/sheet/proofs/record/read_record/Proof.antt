@@ -24,7 +24,13 @@ enum-known-k-2 : tie.Need-enum-known-k-2
 enum-known-k-2 c = search needs
 
 add-t17 : tie.Need-add-t17
-add-t17 c = omega (arith, bad-place _ _ _ _ _ _ _ (c .before .before .before .before .before .before .before .before .read-head .ensures) (c .before .before .before .before .before .before .stage .given .1) _ (c .before .before .before .before .body .ensures) _ (c .before .before .before .read-body .ensures) _ _ (c .before .k2 .given .1))
+add-t17 c =
+    let h = c .before .before .before .before .before .before in
+    omega (
+      arith,
+      bad-place _ _ _ _ _ _ _ (h .before .before .read-head .ensures) (h .stage .given .1) _ (c .before .before .before .before .body .ensures) _
+          (c .before .before .before .read-body .ensures) _ _ (c .before .k2 .given .1),
+    )
 
 enum-known-n : tie.Need-enum-known-n
 enum-known-n c = search needs
@@ -33,16 +39,28 @@ stage-of-requires : tie.Need-stage-of-requires
 stage-of-requires c κs = search needs
 
 add-t19 : tie.Need-add-t19
-add-t19 c = omega (arith, good-place _ _ _ _ _ _ _ (c .before .before .before .before .before .before .before .before .before .read-head .ensures) (c .before .before .before .before .before .before .before .stage .given .1) _ (c .before .before .before .before .before .body .ensures) _ (c .before .before .before .before .read-body .ensures) _ (c .before .before .n .given .1))
+add-t19 c =
+    let h = c .before .before .before .before .before .before .before in
+    omega (
+      arith,
+      good-place _ _ _ _ _ _ _ (h .before .before .read-head .ensures) (h .stage .given .1) _ (c .before .before .before .before .before .body .ensures) _
+          (c .before .before .before .before .read-body .ensures) _ (c .before .before .n .given .1),
+    )
 
 returns : tie.Need-returns
 returns c = record-head _ _ _ _ _ _ (c .before .before .before .read-head .ensures) (c .before .k .given .1)
 
 returns-2 : tie.Need-returns-2
-returns-2 c = record-bad _ _ _ _ _ _ _ (c .before .before .before .before .before .before .before .before .read-head .ensures) (c .before .before .before .before .before .before .stage .given .1) _ (c .before .before .before .before .body .ensures) _ (c .before .before .before .read-body .ensures) _ _ (c .before .k2 .given .1)
+returns-2 c =
+    let h = c .before .before .before .before .before .before in
+    record-bad _ _ _ _ _ _ _ (h .before .before .read-head .ensures) (h .stage .given .1) _ (c .before .before .before .before .body .ensures) _
+    (c .before .before .before .read-body .ensures) _ _ (c .before .k2 .given .1)
 
 returns-3 : tie.Need-returns-3
-returns-3 c = record-good _ _ _ _ _ _ _ (c .before .before .before .before .before .before .before .before .before .read-head .ensures) (c .before .before .before .before .before .before .before .stage .given .1) _ (c .before .before .before .before .before .body .ensures) _ (c .before .before .before .before .read-body .ensures) _ (c .before .before .n .given .1) _ (c .stage-of .ensures)
+returns-3 c =
+    let h = c .before .before .before .before .before .before .before in
+    record-good _ _ _ _ _ _ _ (h .before .before .read-head .ensures) (h .stage .given .1) _ (c .before .before .before .before .before .body .ensures) _
+    (c .before .before .before .before .read-body .ensures) _ (c .before .before .n .given .1) _ (c .stage-of .ensures)
 
 pub read-record-spec : {M : Type 1} → statement M
 read-record-spec =

@@ -43,9 +43,10 @@ loop-less c = omega arith
 
 loop-again : tie.Need-loop-again Inv-loop μ-loop
 loop-again c =
-    let s = c .before .before .before .before .before .before .before in
-    let v = c .before .before .before .before .before .loop .inv in
-    (omega arith, omega arith, c .before .before .put64 .ensures ∙ rw (v .2) (eights-more (s .args .b .now) (s .args .at) (s .args .t3) (c .before .before .before .before .before .loop .n) (omega arith) (omega arith)))
+    let l = c .before .before .before .before .before .loop in
+    let a = c .before .before .before .before .before .before .before .args in
+    let more = eights-more (a .b .now) (a .at) (a .t3) (l .n) (omega arith) (omega arith) in
+    (omega arith, omega arith, c .before .before .put64 .ensures ∙ rw (l .inv .2) more)
 
 same-length : tie.Need-same-length Inv-loop μ-loop
 same-length c = omega arith

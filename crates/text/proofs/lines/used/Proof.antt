@@ -12,11 +12,5 @@ mul-n c =
     let b : c .args .rows ≤ 255 = omega arith in
     omega (arith, mul-le-mul a b)
 
-returns : tie.Need-returns
-returns c = search needs
-
-returns-2 : tie.Need-returns-2
-returns-2 c = search needs
-
 pub used-spec : {M : Type 1} → statement M
-used-spec = tie.close (tie.spec mul-n returns returns-2)
+used-spec = tie.close (tie.spec mul-n (λ c. search needs) (λ c. search needs))

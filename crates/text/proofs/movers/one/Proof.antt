@@ -1,30 +1,23 @@
--- `text::movers::one` meets its contract.
+-- A marked entry but the setting's own is put after a space, any other not.
 use native.Mathlib.Omega.{arith}
-use Rattle.text.proofs.Pieces.{nothing}
+use Rattle.text.proofs.Pieces.{no-text}
 use Rattle.text.proofs.Lists.{mover-some, mover-none}
 use borrow.Author.Needs.{needs}
 use Rattle.text.proofs.movers.one.Statement.{statement}
 use Rattle.text.proofs.movers.one.Tie as tie
 
-element-copy-out-if1 : tie.Need-element-copy-out-if1
-element-copy-out-if1 c = search needs
-
-field-requires : tie.Need-field-requires
-field-requires c κs = search needs
-
-same-length : tie.Need-same-length
-same-length c = search needs
-
 returns : tie.Need-returns
 returns c =
-    let s = c .before .before .before .before .before .before .before .args in
-    let p = c .before .before .field in
-    (rw (mover-some (s .marks .now) (s .own) (s .k) (c .before .before .before .before .if1 .taken)) (p .ensures .0), p .ensures .1)
+    let number = c .before .before in
+    let test = number .before .before in
+    let s = test .before .before .before .args in
+    let p = number .number .ensures in
+    (rw (mover-some (s .marks .now) (s .own) (s .k) (test .if1 .taken)) (p .0), p .1)
 
 returns-2 : tie.Need-returns-2
 returns-2 c =
     let s = c .before .before .before .args in
-    (rw (mover-none (s .marks .now) (s .own) (s .k) (c .if1 .left)) (nothing (s .out .now) (s .at)), omega arith)
+    (rw (mover-none (s .marks .now) (s .own) (s .k) (c .if1 .left)) (no-text (s .out .now) (s .at)), omega arith)
 
 pub one-spec : {M : Type 1} → statement M
-one-spec = tie.close (tie.spec element-copy-out-if1 field-requires same-length returns returns-2)
+one-spec = tie.close (tie.spec (λ c. search needs) (λ c κs. search needs) (λ c. search needs) returns returns-2)

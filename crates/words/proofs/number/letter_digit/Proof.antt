@@ -10,12 +10,6 @@ returns : tie.Need-returns
 unfolding letterDigit
 returns c = (simp (lt-ltb _ _ (c .if1 .taken)), omega arith)
 
-sub-result : tie.Need-sub-result
-sub-result c = search needs
-
-cast-result : tie.Need-cast-result
-cast-result c = search needs
-
 returns-2 : tie.Need-returns-2
 unfolding letterDigit
 returns-2 c = (simp (le-ltb _ _ (c .before .if1 .left), lt-ltb _ _ (c .if2 .taken)), omega arith)
@@ -23,12 +17,6 @@ returns-2 c = (simp (le-ltb _ _ (c .before .if1 .left), lt-ltb _ _ (c .if2 .take
 returns-3 : tie.Need-returns-3
 unfolding letterDigit
 returns-3 c = (simp (le-ltb _ _ (c .before .before .if1 .left), le-ltb _ _ (c .before .if2 .left), lt-ltb _ _ (c .if3 .taken)), omega arith)
-
-sub-result-2 : tie.Need-sub-result-2
-sub-result-2 c = search needs
-
-cast-result-2 : tie.Need-cast-result-2
-cast-result-2 c = search needs
 
 returns-4 : tie.Need-returns-4
 unfolding letterDigit
@@ -41,4 +29,5 @@ returns-5 c = (simp (le-ltb _ _ (c .before .before .before .if1 .left), le-ltb _
 pub letter-digit-spec : {M : Type 1} → statement M
 letter-digit-spec =
     tie.close
-    (tie.spec returns sub-result cast-result returns-2 returns-3 sub-result-2 cast-result-2 returns-4 returns-5)
+    (tie.spec
+    returns (λ c. search needs) (λ c. search needs) returns-2 returns-3 (λ c. search needs) (λ c. search needs) returns-4 returns-5)

@@ -6,9 +6,6 @@ use borrow.Author.Needs.{needs}
 use Rattle.words.proofs.number.low_digit.Statement.{statement}
 use Rattle.words.proofs.number.low_digit.Tie as tie
 
-cast-result : tie.Need-cast-result
-cast-result c = search needs
-
 returns : tie.Need-returns
 unfolding lowDigit
 returns c = (simp (lt-ltb _ _ (c .if1 .taken)), omega arith)
@@ -18,4 +15,4 @@ unfolding lowDigit
 returns-2 c = (simp (le-ltb _ _ (c .if1 .left)), omega arith)
 
 pub low-digit-spec : {M : Type 1} → statement M
-low-digit-spec = tie.close (tie.spec cast-result returns returns-2)
+low-digit-spec = tie.close (tie.spec (λ c. search needs) returns returns-2)

@@ -20,24 +20,12 @@ returns c = empty (c .before .before .args .base) (c .before .before .args .s .n
 loop-holds : tie.Need-loop-holds Inv-loop μ-loop
 loop-holds c = (omega arith, omega arith, begun (c .before .before .args .base) (c .before .before .args .s .now) (c .if1 .left))
 
-shared-slice-read-digit : tie.Need-shared-slice-read-digit Inv-loop μ-loop
-shared-slice-read-digit c = omega arith
-
-digit-requires : tie.Need-digit-requires Inv-loop μ-loop
-digit-requires c κs = tt
-
 returns-2 : tie.Need-returns-2 Inv-loop μ-loop
 returns-2 c =
     let s = c .before .before .before .before .before .before .before .args in
     let l = c .before .before .before .before .loop in
     let d = c .before .digit in
     no-digit (s .base) (l .n) (s .s .now) (l .i) (d .result) (omega arith) (d .ensures .0) (c .if2 .taken) ∙ l .inv .2
-
-sub-if3 : tie.Need-sub-if3 Inv-loop μ-loop
-sub-if3 c = omega arith
-
-div-if3 : tie.Need-div-if3 Inv-loop μ-loop
-div-if3 c = omega arith
 
 returns-3 : tie.Need-returns-3 Inv-loop μ-loop
 returns-3 c =
@@ -57,12 +45,6 @@ add-n c =
     let s = c .before .before .before .before .before .before .before .before in
     omega (arith, stays (s .args .base) (c .before .before .before .before .before .loop .n) (c .before .before .digit .result) 18446744073709551615 (s .pre .0) (omega arith) (c .if3 .left))
 
-add-i : tie.Need-add-i Inv-loop μ-loop
-add-i c = omega arith
-
-loop-less : tie.Need-loop-less Inv-loop μ-loop
-loop-less c = omega arith
-
 loop-again : tie.Need-loop-again Inv-loop μ-loop
 loop-again c =
     let s = c .before .before .before .before .before .before .before .before in
@@ -81,19 +63,5 @@ pub number-spec : {M : Type 1} → statement M
 number-spec =
     tie.close
     (tie.spec
-    Inv-loop
-    μ-loop
-    returns
-    loop-holds
-    shared-slice-read-digit
-    digit-requires
-    returns-2
-    sub-if3
-    div-if3
-    returns-3
-    mul-n
-    add-n
-    add-i
-    loop-less
-    loop-again
-    returns-4)
+    Inv-loop μ-loop returns loop-holds (λ c. omega arith) (λ c κs. tt) returns-2 (λ c. omega arith) (λ c. omega arith) returns-3 mul-n add-n
+    (λ c. omega arith) (λ c. omega arith) loop-again returns-4)

@@ -1,7 +1,7 @@
 -- `words::split::count` meets its contract, and its loop ends.
 use mathlib.Core.Path.{_≡_}
 use lib.ListN.{length, drop}
-use Rattle.words.specs.Split.{countOf}
+use Rattle.words.specs.Split.{wordCount}
 use Rattle.words.proofs.Splits.{count-more, count-end}
 use native.Mathlib.Omega.{arith}
 use Prim.Native.Nat.{_+_, _-_, _≤_}
@@ -9,28 +9,10 @@ use Rattle.words.proofs.split.count.Statement.{statement}
 use Rattle.words.proofs.split.count.Tie as tie
 
 abbrev Inv-loop : tie.InvT-loop
-Inv-loop s n₀ i₀ n i = (n ≤ i) × (i ≤ length s) × (n + countOf (drop i s) ≡ countOf s)
+Inv-loop s n₀ i₀ n i = (n ≤ i) × (i ≤ length s) × (n + wordCount (drop i s) ≡ wordCount s)
 
 abbrev μ-loop : tie.MeasureT-loop
 μ-loop s n₀ i₀ n i = length s - i
-
-loop-holds : tie.Need-loop-holds Inv-loop μ-loop
-loop-holds c = omega arith
-
-shared-slice-read-ends : tie.Need-shared-slice-read-ends Inv-loop μ-loop
-shared-slice-read-ends c = omega arith
-
-ends-requires : tie.Need-ends-requires Inv-loop μ-loop
-ends-requires c κs = tt
-
-add-n : tie.Need-add-n Inv-loop μ-loop
-add-n c = omega arith
-
-add-i : tie.Need-add-i Inv-loop μ-loop
-add-i c = omega arith
-
-loop-less : tie.Need-loop-less Inv-loop μ-loop
-loop-less c = omega arith
 
 loop-again : tie.Need-loop-again Inv-loop μ-loop
 loop-again c =
@@ -45,13 +27,4 @@ pub count-spec : {M : Type 1} → statement M
 count-spec =
     tie.close
     (tie.spec
-    Inv-loop
-    μ-loop
-    loop-holds
-    shared-slice-read-ends
-    ends-requires
-    add-n
-    add-i
-    loop-less
-    loop-again
-    returns)
+    Inv-loop μ-loop (λ c. omega arith) (λ c. omega arith) (λ c κs. tt) (λ c. omega arith) (λ c. omega arith) (λ c. omega arith) loop-again returns)

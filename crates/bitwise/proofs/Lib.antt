@@ -1,0 +1,5 @@
+-- The laws of this crate. Assumes nothing.
+pub mod Codes
+pub mod Counted
+pub mod Impostors
+pub mod Single

@@ -1,0 +1,61 @@
+-- Wrong programs that the contracts of the exported functions exclude, each at a witness. Assumes nothing.
+use mathlib.Core.Path.{_≡_, refl}
+use mathlib.Core.Bool.{true}
+use mathlib.Core.List.{List, [], _∷_, map}
+use Prim.Native.Nat.{ℕ}
+use lib.Dec.{eqb}
+use lib.ListN.{replicate}
+use Rattle.operand.specs.declared.Outcome.{Outcome}
+use Rattle.operand.specs.Outcome.{refusedWith}
+use Rattle.dispatch.specs.Meaning.{unaryMeaning, binaryMeaning}
+use Rattle.sheet.specs.Read.{must, thenRead}
+use Rattle.sheet.specs.Record.{readHead, readRecord}
+use Rattle.sheet.specs.Sheet.{readRecords, readSheet, checkedOf}
+use Rattle.fold.specs.Fresh.{entryAt, foldedOf, freshAnswer}
+use Rattle.fold.specs.Change.{isSetting, faultOf, changeAnswer}
+use Rattle.booth.specs.Answer.{packedAnswer, packedFold}
+use Rattle.booth.specs.Operand.{operandIn, directAnswer, directBytes}
+
+-- not every sheet is refused, and the place of a sheet that is cut short is not lost
+pub check-answers : map (λ (s : List ℕ). packedFold (foldedOf (checkedOf (readSheet s)))) ([] ∷ (213 ∷ []) ∷ []) ≡ 0 ∷ packedAnswer 22 1 ∷ []
+unfolding must thenRead readHead readRecord readRecords readSheet
+check-answers = refl
+
+-- results of another size than the sheet asks for are not taken
+pub fresh-answers : map (λ (l : List ℕ). packedFold (freshAnswer (readSheet []) l)) ([] ∷ (7 ∷ []) ∷ []) ≡ 0 ∷ packedAnswer 30 0 ∷ []
+unfolding must readRecords readSheet freshAnswer
+fresh-answers = refl
+
+-- an entry that is not there is not changed
+pub change-answer : packedFold (changeAnswer (readSheet []) [] 0 4 5) ≡ packedAnswer 31 0
+unfolding must readRecords readSheet entryAt isSetting faultOf changeAnswer
+change-answer = refl
+
+-- a slot of 135 or 137 bytes is not taken, whatever the outcome
+pub slot-sizes : (o : Outcome) → map (λ (n : ℕ). eqb (directAnswer (replicate n 7) o) (packedAnswer 30 0)) (135 ∷ 137 ∷ []) ≡ true ∷ true ∷ []
+unfolding directAnswer
+slot-sizes o = refl
+
+-- the slot does not take a refusal
+pub slot-kept : directBytes (replicate 136 7) (refusedWith 9 32) ≡ replicate 136 7
+unfolding directBytes
+slot-kept = refl
+
+-- a vector with one component's bytes and a scalar with one byte more are no operands; the U32 0 is one
+pub operand-types : map (λ (b : List ℕ). operandIn b .ty) (
+    (4 ∷ 1 ∷ 2 ∷ replicate 8 0)
+    ∷ (4 ∷ 1 ∷ 1 ∷ replicate 9 0)
+    ∷ (4 ∷ 1 ∷ 1 ∷ replicate 8 0)
+    ∷ [])
+    ≡ 255 ∷ 255 ∷ 4 ∷ []
+unfolding operandIn
+operand-types = refl
+
+-- an operator that is not known is refused before the operands are looked at
+pub unary-unknown : directAnswer (replicate 136 7) (unaryMeaning 4 0 (operandIn [])) ≡ packedAnswer 25 0
+unfolding directAnswer unaryMeaning
+unary-unknown = refl
+
+pub binary-unknown : directAnswer (replicate 136 7) (binaryMeaning 19 0 (operandIn []) (operandIn [])) ≡ packedAnswer 25 0
+unfolding directAnswer binaryMeaning
+binary-unknown = refl

@@ -1,0 +1,101 @@
+// Operators on scalars, under the names that they have in Rust.
+use crate::answers;
+use bitwise::bits;
+use bitwise::shifts;
+use relation::comparison;
+use relation::logical;
+use value::Answer;
+use value::Found;
+use value::Scalar;
+use value::ShaderStage;
+use value::pattern::bits_of;
+use value::pattern::scalar_of;
+use value::type_of;
+
+// An answer's number and detail, packed as C has them.
+fn packed(a: Answer) -> u64 {
+    match a {
+        Answer::Value(_) => 0,
+        Answer::Unary => 0x1_0000_0000,
+        Answer::Binary => 0x2_0000_0000,
+        Answer::AddOverflow => 0x4_0000_0000,
+        Answer::SubOverflow => 0x5_0000_0000,
+        Answer::MulOverflow => 0x6_0000_0000,
+        Answer::DivByZero => 0x7_0000_0000,
+        Answer::RemZeroDiv => 0x8_0000_0000,
+        Answer::ShlOverflow(n) => 0x9_0000_0000 + n as u64,
+        Answer::ShrOverflow(n) => 0xa_0000_0000 + n as u64,
+    }
+}
+
+// The unary operator of a code.
+fn unary(op: u8, v: Scalar) -> Answer {
+    match op {
+        1 => logical::op_not(v),
+        2 => arithmetic::op_neg(v),
+        _ => bits::op_bitnot(v),
+    }
+}
+
+// The operators that a stage does not touch.
+fn staged_nowhere(op: u8, l: Scalar, r: Scalar) -> Answer {
+    match op {
+        1 => logical::op_or(l, r),
+        2 => logical::op_and(l, r),
+        8 => comparison::op_eq(l, r),
+        9 => comparison::op_ne(l, r),
+        10 => comparison::op_lt(l, r),
+        11 => comparison::op_le(l, r),
+        12 => comparison::op_gt(l, r),
+        13 => comparison::op_ge(l, r),
+        14 => bits::op_bitor(l, r),
+        15 => bits::op_bitand(l, r),
+        _ => bits::op_bitxor(l, r),
+    }
+}
+
+// The binary operator of a code.
+fn binary(op: u8, stage: ShaderStage, l: Scalar, r: Scalar) -> Answer {
+    match op {
+        3 => arithmetic::op_add(l, r, stage),
+        4 => arithmetic::op_sub(l, r, stage),
+        5 => arithmetic::op_mul(l, r, stage),
+        6 => arithmetic::op_div(l, r, stage),
+        7 => arithmetic::op_rem(l, r, stage),
+        17 => shifts::op_shl(l, r, stage),
+        18 => shifts::op_shr(l, r, stage),
+        _ => staged_nowhere(op, l, r),
+    }
+}
+
+// Whether an answer is the one that the rest of a record says: status, detail and value.
+fn is_said(a: Answer, rest: &[u8]) -> bool {
+    if !answers(packed(a), rest) {
+        return false;
+    }
+    let Answer::Value(s) = a else {
+        return true;
+    };
+    (type_of(s) == fields::byte(rest, 5)) & (bits_of(s) == fields::number(fields::part(rest, 9, 8)))
+}
+
+// The scalar that is an operand; a list of scalars has no other.
+fn scalar_in(operand: &[u8]) -> Scalar {
+    let bits = fields::number(fields::part(operand, 4, 8));
+    let Found::Value(s) = scalar_of(fields::byte(operand, 0), bits) else {
+        return Scalar::Bool(false);
+    };
+    s
+}
+
+// A record: kind (1 unary, 2 binary), operator, stage, one or two scalars of twelve bytes, and what must come out.
+pub fn is_right(case: &[u8]) -> bool {
+    let op = fields::byte(case, 1);
+    let l = scalar_in(fields::part(case, 3, 12));
+    if fields::byte(case, 0) == 1 {
+        return is_said(unary(op, l), fields::part(case, 15, 17));
+    }
+    let r = scalar_in(fields::part(case, 15, 12));
+    let stage = value::stage_of(fields::byte(case, 2));
+    is_said(binary(op, stage, l, r), fields::part(case, 27, 17))
+}

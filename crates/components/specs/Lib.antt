@@ -1,0 +1,2 @@
+-- Work component by component. Assumes nothing.
+pub mod Components

@@ -1,0 +1,5 @@
+-- The laws of this crate. Assumes nothing.
+pub mod Range
+pub mod Pairing
+pub mod Single
+pub mod Impostors

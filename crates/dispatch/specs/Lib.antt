@@ -1,0 +1,2 @@
+-- What an operator gives. Assumes nothing.
+pub mod Meaning

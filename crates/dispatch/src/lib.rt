@@ -1,0 +1,178 @@
+// An operator on operands of any shape: shape pair, common type, conversions, equal shape, the type's right, components.
+use components::Run;
+use components::converted;
+use components::steps;
+use components::unary_steps;
+use operand::Instance;
+use operand::Outcome;
+use operand::Shape;
+use operand::answered;
+use operand::count;
+use operand::is_matrix;
+use operand::is_scalar;
+use operand::refused;
+use pairing::Targets;
+use pairing::fits;
+use pairing::is_product;
+use pairing::misfit;
+use pairing::pair_ok;
+use pairing::result_shape;
+use pairing::targets_of;
+use products::cells;
+use products::vec_mat;
+ghost use mathlib.Core.Path.{_≡_};
+ghost use mathlib.Core.Bool.{true};
+ghost use Rattle.operand.specs.Operand.{shapeOf, Small, operandFormed};
+ghost use Rattle.components.specs.Components.{runResult, strideOf};
+ghost use Rattle.pairing.specs.Pairing.{targetsOf};
+ghost use Rattle.dispatch.specs.Meaning.{shapedAnswer, byComponent, matrixProduct, onConverted, convertedTo, judged, unaryJudged};
+
+// A run as an answer of a type and shape.
+fn answer_of(run: Run, ty: u8, cols: u8, rows: u8) -> Outcome
+    ensures { λ o. ⌜ o ≡ shapedAnswer (runResult run) ty cols rows ⌝ }
+{
+    let refusal = run.refusal;
+    if run.stopped {
+        return refused(refusal.number, refusal.detail);
+    }
+    let comps = run.comps;
+    answered(Instance {
+        ty,
+        cols,
+        rows,
+        comps,
+    })
+}
+
+// How far one component's place lies from the next: a scalar stands for every component.
+fn stride(s: Shape) -> usize
+    ensures { λ r. ⌜ r ≡ strideOf s ⌝ }
+{
+    if is_scalar(s) {
+        return 0;
+    }
+    1
+}
+
+// A binary operator by component, on converted operands.
+fn componentwise(
+    op: u8,
+    stage: u8,
+    ty: u8,
+    a: Shape,
+    x: &[u64; 16],
+    b: Shape,
+    y: &[u64; 16],
+) -> Outcome
+    requires { ⌜ Small a × Small b ⌝ }
+    ensures { λ o. ⌜ o ≡ byComponent op stage ty a (now (x .entry)) b (now (y .entry)) ⌝ }
+{
+    let s = result_shape(a, b);
+    let run = steps(op, stage, ty, x, 0, stride(a), y, 0, stride(b), count(s));
+    answer_of(run, types::result_type(op, ty), s.cols, s.rows)
+}
+
+// A product that sums: vector with matrix, matrix with vector, matrix with matrix.
+fn multiply(stage: u8, ty: u8, a: Shape, x: &[u64; 16], b: Shape, y: &[u64; 16]) -> Outcome
+    requires { ⌜ Small a × Small b ⌝ }
+    ensures { λ o. ⌜ o ≡ matrixProduct stage ty a (now (x .entry)) b (now (y .entry)) ⌝ }
+{
+    if a.cols == 1 {
+        let run = vec_mat(stage, ty, x, y, b.rows as usize, b.cols as usize);
+        return answer_of(run, ty, 1, b.cols);
+    }
+    let rows = a.rows as usize;
+    let inner = a.cols as usize;
+    let run = cells(stage, ty, x, y, rows, inner, rows * (b.cols as usize));
+    answer_of(run, ty, b.cols, a.rows)
+}
+
+// Converted operands: equal shape, the type's right, the components.
+fn work(op: u8, stage: u8, ty: u8, a: Shape, x: &[u64; 16], b: Shape, y: &[u64; 16]) -> Outcome
+    requires { ⌜ Small a × Small b ⌝ }
+    ensures { λ o. ⌜ o ≡ onConverted op stage ty a (now (x .entry)) b (now (y .entry)) ⌝ }
+{
+    if !fits(op, a, b) {
+        return refused(misfit(op, a, b), 0);
+    }
+    if !types::right(op, ty) {
+        return refused(2, 0);
+    }
+    if is_product(op, a, b) {
+        return multiply(stage, ty, a, x, b, y);
+    }
+    componentwise(op, stage, ty, a, x, b, y)
+}
+
+// Conversions of both operands, left first, and what comes after. Operands that have their types are worked on as they stand.
+fn convert_both(op: u8, stage: u8, x: u8, y: u8, l: Instance, r: Instance) -> Outcome
+    requires { ⌜ (operandFormed l ≡ true) × (operandFormed r ≡ true) × (targetsOf op (l .ty) (r .ty) ≡ Targets.Types x y) ⌝ }
+    ensures { λ o. ⌜ o ≡ convertedTo x y op stage l r ⌝ }
+{
+    let a = Shape {
+        cols: l.cols,
+        rows: l.rows,
+    };
+    let b = Shape {
+        cols: r.cols,
+        rows: r.rows,
+    };
+    if (l.ty == x) & (r.ty == y) {
+        return work(op, stage, x, a, &l.comps, b, &r.comps);
+    }
+    let left = converted(l.ty, x, &l.comps, count(a));
+    let first = left.refusal;
+    if left.stopped {
+        return refused(first.number, first.detail);
+    }
+    let right = converted(r.ty, y, &r.comps, count(b));
+    let second = right.refusal;
+    if right.stopped {
+        return refused(second.number, second.detail);
+    }
+    work(op, stage, x, a, &left.comps, b, &right.comps)
+}
+
+// Well-formed operands: shape pair, common type, and what comes after.
+pub fn judge(op: u8, stage: u8, l: Instance, r: Instance) -> Outcome
+    requires { ⌜ (operandFormed l ≡ true) × (operandFormed r ≡ true) ⌝ }
+    ensures { λ o. ⌜ o ≡ judged op stage l r ⌝ }
+{
+    if !pair_ok(
+        op,
+        Shape {
+            cols: l.cols,
+            rows: l.rows,
+        },
+        Shape {
+            cols: r.cols,
+            rows: r.rows,
+        },
+    ) {
+        return refused(2, 0);
+    }
+    let targets = targets_of(op, l.ty, r.ty);
+    let Targets::Types(x, y) = targets else {
+        return refused(2, 0);
+    };
+    convert_both(op, stage, x, y, l, r)
+}
+
+// A unary operator on a well-formed operand: its shape, the type's right, the components.
+pub fn unary_judge(op: u8, v: Instance) -> Outcome
+    requires { ⌜ Small (shapeOf v) ⌝ }
+    ensures { λ o. ⌜ o ≡ unaryJudged op v ⌝ }
+{
+    let s = Shape {
+        cols: v.cols,
+        rows: v.rows,
+    };
+    if is_matrix(s) {
+        return refused(1, 0);
+    }
+    if !types::unary_right(op, v.ty) {
+        return refused(1, 0);
+    }
+    let run = unary_steps(op, v.ty, &v.comps, count(s));
+    answer_of(run, v.ty, v.cols, v.rows)
+}

@@ -1,0 +1,38 @@
+-- What an operator may answer: a well-formed value, or a refusal of its own with a value of zeros. Assumes nothing.
+use mathlib.Core.Path.{_≡_}
+use mathlib.Core.Bool.{true}
+use mathlib.Core.List.{List}
+use mathlib.Core.Logic.{_⊎_}
+use Prim.Native.Nat.{ℕ, _≤_, _<_}
+use lib.ListN.{length, getD}
+use Rattle.value.specs.Pattern.{properOf, keptOf}
+use Rattle.operand.specs.Operand.{shapeOk, shapeOf, componentCount}
+use Rattle.operand.specs.Outcome.{refusedWith}
+use Rattle.operand.specs.declared.Outcome.{Outcome}
+
+-- a pattern of its type, a NaN as it is kept
+abbrev pub Fine : ℕ → ℕ → Type 0
+Fine ty b = (properOf ty b ≡ true) × (keptOf ty b ≡ b)
+
+-- sixteen components: a fact of each one in use, and 0 beyond
+pub record Sixteen (Q : ℕ → Type 0) (n : ℕ) (cs : List ℕ) : Type 0 where
+  pub long : length cs ≡ 16
+  pub used : (i : ℕ) → i < n → Q (getD cs i 0)
+  pub rest : (i : ℕ) → n ≤ i → getD cs i 0 ≡ 0
+
+-- a value: status 0, detail 0, a known type and shape, proper components in use, 0 beyond
+pub record Value (o : Outcome) : Type 0 where
+  pub status : o .status ≡ 0
+  pub detail : o .detail ≡ 0
+  pub shape : shapeOk (o .value .ty) (o .value .cols) (o .value .rows) ≡ true
+  pub parts : Sixteen (Fine (o .value .ty)) (componentCount (shapeOf (o .value))) (o .value .comps)
+
+-- a refusal: a number from 1 to 10, detail 0 but for the shifts', and zeros
+pub record Refusing (o : Outcome) : Type 0 where
+  pub low : 1 ≤ o .status
+  pub high : o .status ≤ 10
+  pub plain : (o .status ≡ 9 → ⊥) → (o .status ≡ 10 → ⊥) → o .detail ≡ 0
+  pub zeros : o ≡ refusedWith (o .status) (o .detail)
+
+abbrev pub Answers : Outcome → Type 0
+Answers o = Value o ⊎ Refusing o

@@ -1,0 +1,7 @@
+-- The laws of this crate. Assumes nothing.
+pub mod Tests
+pub mod Every
+pub mod Shapes
+pub mod Answers
+pub mod Single
+pub mod Impostors

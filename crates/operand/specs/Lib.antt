@@ -1,0 +1,3 @@
+-- Operands and outcomes. Assumes nothing.
+pub mod Operand
+pub mod Outcome

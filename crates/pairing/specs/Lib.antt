@@ -1,0 +1,2 @@
+-- Which shapes and types an operator takes. Assumes nothing.
+pub mod Pairing

@@ -1,0 +1,6 @@
+-- The laws of this crate. Assumes nothing.
+pub mod Places
+pub mod Sums
+pub mod Satisfies
+pub mod Single
+pub mod Impostors

@@ -1,0 +1,2 @@
+-- Sums of products. Assumes nothing.
+pub mod Products

@@ -1,0 +1,2 @@
+-- What this crate's promises say, over the width. Assumes nothing.
+pub mod Shift

@@ -1,0 +1,77 @@
+-- `types::row_of` meets its contract. Assumes nothing.
+use mathlib.Core.Bool.{false}
+use mathlib.Core.Path.{_∙_}
+use Rattle.types.specs.Types.{none, row, rows}
+use Rattle.types.proofs.Choice.{past-all}
+use borrow.Author.Needs.{needs}
+use Rattle.types.proofs.row_of.Statement.{statement}
+use Rattle.types.proofs.row_of.Tie as tie
+
+row-with-requires : tie.Need-row-with-requires
+row-with-requires c κs = search needs
+
+row-with-requires-2 : tie.Need-row-with-requires-2
+row-with-requires-2 c κs = search needs
+
+row-with-requires-3 : tie.Need-row-with-requires-3
+row-with-requires-3 c κs = search needs
+
+row-with-requires-4 : tie.Need-row-with-requires-4
+row-with-requires-4 c κs = search needs
+
+row-with-requires-5 : tie.Need-row-with-requires-5
+row-with-requires-5 c κs = search needs
+
+row-with-requires-6 : tie.Need-row-with-requires-6
+row-with-requires-6 c κs = search needs
+
+row-with-requires-7 : tie.Need-row-with-requires-7
+row-with-requires-7 c κs = search needs
+
+row-with-requires-8 : tie.Need-row-with-requires-8
+row-with-requires-8 c κs = search needs
+
+returns : tie.Need-returns
+returns c = rw (c .before .match .keys1) (c .row-with .ensures)
+
+returns-2 : tie.Need-returns-2
+returns-2 c = rw (c .before .match .keys2) (c .row-with2 .ensures)
+
+returns-3 : tie.Need-returns-3
+returns-3 c = rw (c .before .match .keys3) (c .row-with3 .ensures)
+
+returns-4 : tie.Need-returns-4
+returns-4 c = rw (c .before .match .keys4) (c .row-with4 .ensures)
+
+returns-5 : tie.Need-returns-5
+returns-5 c = rw (c .before .match .keys5) (c .row-with5 .ensures)
+
+returns-6 : tie.Need-returns-6
+returns-6 c = rw (c .before .match .keys6) (c .row-with6 .ensures)
+
+returns-7 : tie.Need-returns-7
+returns-7 c = rw (c .before .match .keys7) (c .row-with7 .ensures)
+
+returns-8 : tie.Need-returns-8
+returns-8 c = c .row-with8 .ensures ∙ past-all rows (row none 0 false) (c .before .before .args .ty) (c .before .match .rest)
+
+pub row-of-spec : {M : Type 1} → statement M
+row-of-spec =
+    tie.close
+    (tie.spec
+    row-with-requires
+    row-with-requires-2
+    row-with-requires-3
+    row-with-requires-4
+    row-with-requires-5
+    row-with-requires-6
+    row-with-requires-7
+    row-with-requires-8
+    returns
+    returns-2
+    returns-3
+    returns-4
+    returns-5
+    returns-6
+    returns-7
+    returns-8)

@@ -1,0 +1,47 @@
+-- For each public call a witness at which a wrong program's answer is not the one that the contract asks for. Assumes nothing.
+use mathlib.Core.Path.{_≡_, refl}
+use mathlib.Core.Bool.{false}
+use lib.IntN.{negsuc}
+use Rattle.rounding.specs.Bits.{ofFields, ofBits}
+use Rattle.value.specs.declared.Scalar.the-variants.{I32, U32, F16}
+use Rattle.value.specs.declared.ShaderStage.the-variants.{Exec}
+use Rattle.value.specs.declared.Found.the-variants.{Nothing}
+use Rattle.value.specs.declared.Pair.the-variants.{None}
+use Rattle.value.specs.Answer.{strict, stageOf}
+use Rattle.value.specs.Pattern.{properOf, keptOf}
+use Rattle.value.specs.Scalar.{typeOf, finiteOf, bitsOf, scalarOf}
+use Rattle.value.specs.Pair.{bothOf}
+
+-- every stage strict
+pub exec-lets-pass : strict Exec ≡ false
+exec-lets-pass = refl
+
+-- every F16 finite
+pub half-infinity : finiteOf (F16 0x7C00) ≡ false
+unfolding ofFields ofBits
+half-infinity = refl
+
+-- a pattern of a code that names no type, a Bool of 2, an I32 with bits above
+pub not-patterns : (properOf 7 0 ≡ false) × (properOf 0 2 ≡ false) × (properOf 3 0x100000000 ≡ false)
+not-patterns = (refl, refl, refl)
+
+-- NaNs as they come; an infinity taken for a NaN
+pub one-nan-kept : (keptOf 5 0xFF800001 ≡ 0x7FC00000) × (keptOf 5 0xFF800000 ≡ 0xFF800000)
+unfolding keptOf
+one-nan-kept = (refl, refl)
+
+-- Override for every code past Const's
+pub two-is-exec : stageOf 2 ≡ Exec
+two-is-exec = refl
+
+-- I32 and U32 under one code
+pub signs-apart : (typeOf (I32 (negsuc 0)) ≡ 3) × (typeOf (U32 0) ≡ 4)
+signs-apart = (refl, refl)
+
+-- a negative I32 as 64 bits
+pub zero-above : bitsOf (I32 (negsuc 0)) ≡ 0xFFFFFFFF
+zero-above = refl
+
+-- a pattern with bits above cut to its type, alone or in a pair
+pub too-wide : (scalarOf 3 0x100000000 ≡ Nothing) × (bothOf (scalarOf 3 1) (scalarOf 3 0x100000000) ≡ None)
+too-wide = (refl, refl)
