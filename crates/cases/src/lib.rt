@@ -6,8 +6,13 @@ pub mod scalars;
 pub mod shapes;
 pub mod slots;
 
+ghost use mathlib.Core.Path.{_≡_};
+ghost use Rattle.cases.specs.Judged.{answeredSo};
+
 // Whether a packed answer is what a record says: a number in one byte, and its detail in four.
-pub fn answers(answer: u64, said: &[u8]) -> bool {
-    (answer / 0x1_0000_0000 == fields::byte(said, 0) as u64)
-        & (answer % 0x1_0000_0000 == fields::word(said, 1) as u64)
+pub fn answers(answer: u64, said: &[u8]) -> bool
+    ensures { λ r. ⌜ r ≡ answeredSo answer (now (said .entry)) ⌝ }
+{
+    let number = fields::byte(said, 0) as u64;
+    answer == number * 0x1_0000_0000 + fields::word(said, 1) as u64
 }

@@ -11,9 +11,15 @@ use value::ShaderStage;
 use value::pattern::bits_of;
 use value::pattern::scalar_of;
 use value::type_of;
+ghost use mathlib.Core.Path.{_≡_};
+ghost use Rattle.value.specs.Answer.{answerOf};
+ghost use Rattle.cases.specs.Scalars.{unaryBy, binaryBy, scalarIn, packedResult, valueSaid};
+ghost use Rattle.cases.specs.Judged.{resultSaid, scalarRight};
 
 // An answer's number and detail, packed as C has them.
-fn packed(a: Answer) -> u64 {
+fn packed(a: Answer) -> u64
+    ensures { λ r. ⌜ r ≡ packedResult (answerOf a) ⌝ }
+{
     match a {
         Answer::Value(_) => 0,
         Answer::Unary => 0x1_0000_0000,
@@ -28,8 +34,10 @@ fn packed(a: Answer) -> u64 {
     }
 }
 
-// The unary operator of a code.
-fn unary(op: u8, v: Scalar) -> Answer {
+// The unary operator of a code; every other code is taken as 3.
+fn unary(op: u8, v: Scalar) -> Answer
+    ensures { λ a. ⌜ answerOf a ≡ unaryBy op v ⌝ }
+{
     match op {
         1 => logical::op_not(v),
         2 => arithmetic::op_neg(v),
@@ -37,11 +45,18 @@ fn unary(op: u8, v: Scalar) -> Answer {
     }
 }
 
-// The operators that a stage does not touch.
-fn staged_nowhere(op: u8, l: Scalar, r: Scalar) -> Answer {
+// The binary operator of a code; every other code is taken as 16.
+fn binary(op: u8, stage: ShaderStage, l: Scalar, r: Scalar) -> Answer
+    ensures { λ a. ⌜ answerOf a ≡ binaryBy op stage l r ⌝ }
+{
     match op {
         1 => logical::op_or(l, r),
         2 => logical::op_and(l, r),
+        3 => arithmetic::op_add(l, r, stage),
+        4 => arithmetic::op_sub(l, r, stage),
+        5 => arithmetic::op_mul(l, r, stage),
+        6 => arithmetic::op_div(l, r, stage),
+        7 => arithmetic::op_rem(l, r, stage),
         8 => comparison::op_eq(l, r),
         9 => comparison::op_ne(l, r),
         10 => comparison::op_lt(l, r),
@@ -50,37 +65,35 @@ fn staged_nowhere(op: u8, l: Scalar, r: Scalar) -> Answer {
         13 => comparison::op_ge(l, r),
         14 => bits::op_bitor(l, r),
         15 => bits::op_bitand(l, r),
+        17 => shifts::op_shl(l, r, stage),
+        18 => shifts::op_shr(l, r, stage),
         _ => bits::op_bitxor(l, r),
     }
 }
 
-// The binary operator of a code.
-fn binary(op: u8, stage: ShaderStage, l: Scalar, r: Scalar) -> Answer {
-    match op {
-        3 => arithmetic::op_add(l, r, stage),
-        4 => arithmetic::op_sub(l, r, stage),
-        5 => arithmetic::op_mul(l, r, stage),
-        6 => arithmetic::op_div(l, r, stage),
-        7 => arithmetic::op_rem(l, r, stage),
-        17 => shifts::op_shl(l, r, stage),
-        18 => shifts::op_shr(l, r, stage),
-        _ => staged_nowhere(op, l, r),
-    }
-}
-
-// Whether an answer is the one that the rest of a record says: status, detail and value.
-fn is_said(a: Answer, rest: &[u8]) -> bool {
-    if !answers(packed(a), rest) {
-        return false;
-    }
+// Whether a value, if there is one, has the type and the bits that the rest of a record says.
+fn value_said(a: Answer, rest: &[u8]) -> bool
+    ensures { λ r. ⌜ r ≡ valueSaid (answerOf a) (now (rest .entry)) ⌝ }
+{
     let Answer::Value(s) = a else {
         return true;
     };
-    (type_of(s) == fields::byte(rest, 5)) & (bits_of(s) == fields::number(fields::part(rest, 9, 8)))
+    let ty = type_of(s);
+    let bits = bits_of(s);
+    (ty == fields::byte(rest, 5)) & (bits == fields::number(fields::part(rest, 9, 8)))
+}
+
+// Whether an answer is the one that the rest of a record says: status, detail and value.
+fn is_said(a: Answer, rest: &[u8]) -> bool
+    ensures { λ r. ⌜ r ≡ resultSaid (answerOf a) (now (rest .entry)) ⌝ }
+{
+    answers(packed(a), rest) & value_said(a, rest)
 }
 
 // The scalar that is an operand; a list of scalars has no other.
-fn scalar_in(operand: &[u8]) -> Scalar {
+fn scalar_in(operand: &[u8]) -> Scalar
+    ensures { λ r. ⌜ r ≡ scalarIn (now (operand .entry)) ⌝ }
+{
     let bits = fields::number(fields::part(operand, 4, 8));
     let Found::Value(s) = scalar_of(fields::byte(operand, 0), bits) else {
         return Scalar::Bool(false);
@@ -89,7 +102,9 @@ fn scalar_in(operand: &[u8]) -> Scalar {
 }
 
 // A record: kind (1 unary, 2 binary), operator, stage, one or two scalars of twelve bytes, and what must come out.
-pub fn is_right(case: &[u8]) -> bool {
+pub fn is_right(case: &[u8]) -> bool
+    ensures { λ r. ⌜ r ≡ scalarRight (now (case .entry)) ⌝ }
+{
     let op = fields::byte(case, 1);
     let l = scalar_in(fields::part(case, 3, 12));
     if fields::byte(case, 0) == 1 {

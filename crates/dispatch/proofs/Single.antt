@@ -6,8 +6,8 @@ use Rattle.dispatch.proofs.judge.Reads as judge-reads
 use Rattle.dispatch.proofs.unary_judge.Kinds as unary-judge-kinds
 use Rattle.dispatch.proofs.unary_judge.Reads as unary-judge-reads
 
-pub judge-one : OneResult 0 judge-kinds.ps judge-kinds.r judge-reads.Post
+pub judge-one : OneResult 2 judge-kinds.ps judge-kinds.r judge-reads.Post
 judge-one κs a x y s t p q = p ∙ sym q
 
-pub unary-judge-one : OneResult 0 unary-judge-kinds.ps unary-judge-kinds.r unary-judge-reads.Post
+pub unary-judge-one : OneResult 1 unary-judge-kinds.ps unary-judge-kinds.r unary-judge-reads.Post
 unary-judge-one κs a x y s t p q = p ∙ sym q

@@ -22,7 +22,7 @@ use products::cells;
 use products::vec_mat;
 ghost use mathlib.Core.Path.{_≡_};
 ghost use mathlib.Core.Bool.{true};
-ghost use Rattle.operand.specs.Operand.{shapeOf, Small, operandFormed};
+ghost use Rattle.operand.specs.Operand.{inShape, Small, operandFormed};
 ghost use Rattle.components.specs.Components.{runResult, strideOf};
 ghost use Rattle.pairing.specs.Pairing.{targetsOf};
 ghost use Rattle.dispatch.specs.Meaning.{shapedAnswer, byComponent, matrixProduct, onConverted, convertedTo, judged, unaryJudged};
@@ -105,27 +105,31 @@ fn work(op: u8, stage: u8, ty: u8, a: Shape, x: &[u64; 16], b: Shape, y: &[u64; 
 }
 
 // Conversions of both operands, left first, and what comes after. Operands that have their types are worked on as they stand.
-fn convert_both(op: u8, stage: u8, x: u8, y: u8, l: Instance, r: Instance) -> Outcome
-    requires { ⌜ (operandFormed l ≡ true) × (operandFormed r ≡ true) × (targetsOf op (l .ty) (r .ty) ≡ Targets.Types x y) ⌝ }
-    ensures { λ o. ⌜ o ≡ convertedTo x y op stage l r ⌝ }
+fn convert_both(
+    op: u8,
+    stage: u8,
+    x: u8,
+    y: u8,
+    lt: u8,
+    a: Shape,
+    l: &[u64; 16],
+    rt: u8,
+    b: Shape,
+    r: &[u64; 16],
+) -> Outcome
+    requires { ⌜ (operandFormed (inShape lt a (now l)) ≡ true) × (operandFormed (inShape rt b (now r)) ≡ true)
+        × (targetsOf op lt rt ≡ Targets.Types x y) ⌝ }
+    ensures { λ o. ⌜ o ≡ convertedTo x y op stage (inShape lt a (now (l .entry))) (inShape rt b (now (r .entry))) ⌝ }
 {
-    let a = Shape {
-        cols: l.cols,
-        rows: l.rows,
-    };
-    let b = Shape {
-        cols: r.cols,
-        rows: r.rows,
-    };
-    if (l.ty == x) & (r.ty == y) {
-        return work(op, stage, x, a, &l.comps, b, &r.comps);
+    if (lt == x) & (rt == y) {
+        return work(op, stage, x, a, l, b, r);
     }
-    let left = converted(l.ty, x, &l.comps, count(a));
+    let left = converted(lt, x, l, count(a));
     let first = left.refusal;
     if left.stopped {
         return refused(first.number, first.detail);
     }
-    let right = converted(r.ty, y, &r.comps, count(b));
+    let right = converted(rt, y, r, count(b));
     let second = right.refusal;
     if right.stopped {
         return refused(second.number, second.detail);
@@ -134,45 +138,40 @@ fn convert_both(op: u8, stage: u8, x: u8, y: u8, l: Instance, r: Instance) -> Ou
 }
 
 // Well-formed operands: shape pair, common type, and what comes after.
-pub fn judge(op: u8, stage: u8, l: Instance, r: Instance) -> Outcome
-    requires { ⌜ (operandFormed l ≡ true) × (operandFormed r ≡ true) ⌝ }
-    ensures { λ o. ⌜ o ≡ judged op stage l r ⌝ }
+pub fn judge(
+    op: u8,
+    stage: u8,
+    lt: u8,
+    a: Shape,
+    l: &[u64; 16],
+    rt: u8,
+    b: Shape,
+    r: &[u64; 16],
+) -> Outcome
+    requires { ⌜ (operandFormed (inShape lt a (now l)) ≡ true) × (operandFormed (inShape rt b (now r)) ≡ true) ⌝ }
+    ensures { λ o. ⌜ o ≡ judged op stage (inShape lt a (now (l .entry))) (inShape rt b (now (r .entry))) ⌝ }
 {
-    if !pair_ok(
-        op,
-        Shape {
-            cols: l.cols,
-            rows: l.rows,
-        },
-        Shape {
-            cols: r.cols,
-            rows: r.rows,
-        },
-    ) {
+    if !pair_ok(op, a, b) {
         return refused(2, 0);
     }
-    let targets = targets_of(op, l.ty, r.ty);
+    let targets = targets_of(op, lt, rt);
     let Targets::Types(x, y) = targets else {
         return refused(2, 0);
     };
-    convert_both(op, stage, x, y, l, r)
+    convert_both(op, stage, x, y, lt, a, l, rt, b, r)
 }
 
 // A unary operator on a well-formed operand: its shape, the type's right, the components.
-pub fn unary_judge(op: u8, v: Instance) -> Outcome
-    requires { ⌜ Small (shapeOf v) ⌝ }
-    ensures { λ o. ⌜ o ≡ unaryJudged op v ⌝ }
+pub fn unary_judge(op: u8, ty: u8, s: Shape, comps: &[u64; 16]) -> Outcome
+    requires { ⌜ Small s ⌝ }
+    ensures { λ o. ⌜ o ≡ unaryJudged op (inShape ty s (now (comps .entry))) ⌝ }
 {
-    let s = Shape {
-        cols: v.cols,
-        rows: v.rows,
-    };
     if is_matrix(s) {
         return refused(1, 0);
     }
-    if !types::unary_right(op, v.ty) {
+    if !types::unary_right(op, ty) {
         return refused(1, 0);
     }
-    let run = unary_steps(op, v.ty, &v.comps, count(s));
-    answer_of(run, v.ty, v.cols, v.rows)
+    let run = unary_steps(op, ty, comps, count(s));
+    answer_of(run, ty, s.cols, s.rows)
 }

@@ -39,5 +39,5 @@ is-matrix-one κs a x y s t p q = p ∙ sym q
 pub count-one : OneResult 0 count-kinds.ps count-kinds.r count-reads.Post
 count-one κs a x y s t p q = p ∙ sym q
 
-pub formed-one : OneResult 0 formed-kinds.ps formed-kinds.r formed-reads.Post
+pub formed-one : OneResult 1 formed-kinds.ps formed-kinds.r formed-reads.Post
 formed-one κs a x y s t p q = p ∙ sym q

@@ -17,6 +17,10 @@ shapeOk ty c r = knownOf ty && leb 1 r && leb r 4 && (eqb c 1 || (leb 2 c && leb
 abbrev pub shapeOf : Instance → Shape
 shapeOf v = record { cols = v .cols; rows = v .rows }
 
+-- an operand of a type, a shape and components
+abbrev pub inShape : ℕ → Shape → List ℕ → Instance
+inShape ty s xs = record { ty = ty; cols = s .cols; rows = s .rows; comps = xs }
+
 -- 1,1 scalar
 abbrev pub isScalar : Shape → Bool
 isScalar s = eqb (s .cols) 1 && eqb (s .rows) 1

@@ -2,7 +2,7 @@
 ghost use mathlib.Core.Path.{_≡_};
 ghost use Prim.Native.Nat.{_≤_};
 ghost use Rattle.value.specs.Pattern.{properOf};
-ghost use Rattle.operand.specs.Operand.{shapeOk, isScalar, isVector, isMatrix, componentCount, Small, upTo, every, componentAt, operandFormed};
+ghost use Rattle.operand.specs.Operand.{shapeOk, inShape, isScalar, isVector, isMatrix, componentCount, Small, upTo, every, componentAt, operandFormed};
 ghost use Rattle.operand.specs.Outcome.{refusedWith, valueOf};
 
 // A scalar, vector or matrix: its components, column by column, and its type, columns and rows. The components stand first, at
@@ -109,16 +109,12 @@ fn components_ok(ty: u8, xs: &[u64; 16], n: usize) -> bool
     ok
 }
 
-// Whether an operand is well formed: a known type and shape, and proper components in use.
-pub fn formed(v: Instance) -> bool
-    ensures { λ r. ⌜ r ≡ operandFormed v ⌝ }
+// Whether an operand is well formed: a known type and shape, and proper components in use. It is lent, for it is large.
+pub fn formed(ty: u8, s: Shape, comps: &[u64; 16]) -> bool
+    ensures { λ r. ⌜ r ≡ operandFormed (inShape ty s (now (comps .entry))) ⌝ }
 {
-    if !shape_ok(v.ty, v.cols, v.rows) {
+    if !shape_ok(ty, s.cols, s.rows) {
         return false;
     }
-    let n = count(Shape {
-        cols: v.cols,
-        rows: v.rows,
-    });
-    components_ok(v.ty, &v.comps, n)
+    components_ok(ty, comps, count(s))
 }

@@ -24,7 +24,7 @@ fn dot(
     requires { ⌜ Inside a s n × Inside b 1 n × (1 ≤ n) ⌝ }
     ensures { λ o. ⌜ stepResult o ≡ dotOf stage ty (lane (now (l .entry)) a s) (lane (now (r .entry)) b 1) (n - 1) ⌝ }
 {
-    let first = scalar::binary_step(5, stage, ty, entry(l, a, 0, s), entry(r, b, 0, 1));
+    let first = scalar::product(stage, ty, entry(l, a, 0, s), entry(r, b, 0, 1));
     let Step::Bits(_, p) = first else {
         return first;
     };

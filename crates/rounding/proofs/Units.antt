@@ -12,7 +12,7 @@ use lib.Ieee.{inf, fin, up, down, minus, size, odd}
 use lib.Ieee.Digits.{Equals, odd-val}
 use lib.Ieee.Fits.{down-pos}
 use borrow.Author.Tests.{lt-ltb, le-ltb, ltb-true, ltb-false}
-use Rattle.rounding.specs.Kind.{Kind, half, single, double, least, limit, unitsIn}
+use Rattle.rounding.specs.Kind.{Kind, half, single, least, limit, unitsIn}
 use Rattle.rounding.specs.Bits.{hidden, full, signed, toBits, finite}
 use Rattle.rounding.proofs.Digits.{twice, AllDigits, field, packed}
 
@@ -139,6 +139,3 @@ half-sized = record { two = lit≤ tt; one = lit< tt }
 
 pub single-sized : Sized single
 single-sized = record { two = lit≤ tt; one = lit< tt }
-
-pub double-sized : Sized double
-double-sized = record { two = lit≤ tt; one = lit< tt }

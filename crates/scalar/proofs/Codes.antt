@@ -1,12 +1,13 @@
 -- An operator by its code is the operator of the table. Assumes nothing.
-use Prim.Native.Nat.{ℕ, suc, _≤_}
-use mathlib.Core.Path.{_≡_, refl, sym}
+use Prim.Native.Nat.{ℕ, suc, _≤_, _<_}
+use mathlib.Core.Path.{_≡_, sym, _∙_}
+use mathlib.Core.Bool.{false, _&&_, true≢false}
 use mathlib.Core.Logic.{inl, inr}
 use mathlib.Core.List.{_∷_}
 use native.Mathlib.Omega.{arith}
-use lib.Dec.{eqb}
+use lib.Dec.{eqb, leb}
 use lib.ListN.{List·getD-eq-default}
-use borrow.Author.Tests.{ne-eqb}
+use borrow.Author.Tests.{ne-eqb, le-leb}
 use Rattle.integer.proofs.Order.{le-or-lt}
 use Rattle.value.specs.declared.Scalar.{Scalar}
 use Rattle.value.specs.declared.ShaderStage.{ShaderStage}
@@ -21,8 +22,13 @@ use Rattle.bitwise.specs.Shift.{byCount, shiftBy}
 use Rattle.scalar.specs.Step.{binaries, binaryOf, shiftOf}
 
 -- a number from a on is a, or one from a + 1 on
-from : {R : Type 0} (a n : ℕ) → a ≤ n → (n ≡ a → R) → (suc a ≤ n → R) → R
+pub from : {R : Type 0} (a n : ℕ) → a ≤ n → (n ≡ a → R) → (suc a ≤ n → R) → R
 from a n h f g = elim (le-or-lt (suc a) n) [ inl k ↦ g k | inr k ↦ f (omega arith) ]
+
+-- no arithmetic's code, and below those of the comparisons
+pub no-arithmetic : (op : ℕ) → (leb 3 op && leb op 7) ≡ false → op < 8 → op < 3
+no-arithmetic op e h =
+    elim (le-or-lt 3 op) [ inl k ↦ absurd (true≢false (sym (λ i. le-leb 3 op k i && le-leb op 7 (omega arith) i) ∙ e)) | inr k ↦ k ]
 
 module _ (stage : ShaderStage) (p : Pair) (op : ℕ) where
   pub arithmetic-code : 3 ≤ op → op ≤ 7 → arithmeticBy op stage p ≡ binaryOf op stage p

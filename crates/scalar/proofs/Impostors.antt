@@ -1,6 +1,9 @@
 -- For each public call witnesses at which a wrong program's answer is not the one that the contract asks for. Assumes nothing.
 use mathlib.Core.Path.{_≡_, refl}
 use Rattle.integer.specs.Wrap.{wrapU, wrapS}
+use Rattle.rounding.specs.Kind.{roundTo, unitsIn}
+use Rattle.rounding.specs.Arithmetic.{mul}
+use Rattle.rounding.specs.Bits.{ofBits, toBits}
 use Rattle.value.specs.Answer.{refusal}
 use Rattle.scalar.specs.declared.Step.the-variants as S
 use Rattle.scalar.specs.declared.Conv.the-variants as C
@@ -20,6 +23,11 @@ unary-witnesses = (refl, refl)
 pub conversion-witnesses : (convOf 1 4 0xFFFFFFFFFFFFFFFF ≡ C.Nothing) × (convOf 1 4 5 ≡ C.Bits 5) × (convOf 1 0 1 ≡ C.Nothing)
 unfolding convOf
 conversion-witnesses = (refl, refl, refl)
+
+-- a product that is not finite: in Exec refused in F32, or let through in F64
+pub infinity-witnesses : (stepOf 5 2 5 0x7F000000 0x7F000000 ≡ S.Bits 5 0x7F800000) × (stepOf 5 2 2 0x7FE0000000000000 0x7FE0000000000000 ≡ S.Refused (refusal 6 0))
+unfolding stepOf mul roundTo unitsIn ofBits toBits
+infinity-witnesses = (refl, refl)
 
 -- the product without the sum, the sum without the product
 pub product-witness : productAdded 0 3 1 2 3 ≡ S.Bits 3 7

@@ -3,6 +3,7 @@ pub mod Steps
 pub mod Added
 pub mod Keeps
 pub mod Promises
+pub mod Rights
 pub mod Reread
 pub mod Single
 pub mod Impostors

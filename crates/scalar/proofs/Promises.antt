@@ -66,7 +66,7 @@ steps ty (value s) k = (k .0, fine ty s k)
 steps ty (refused r) k = k
 
 -- ---- the entries of a table, one after the other
-abbrev Entries : {X : Type 0} → (ℕ → X → Type 0) → List X → Type 0 → Type 0
+abbrev pub Entries : {X : Type 0} → (ℕ → X → Type 0) → List X → Type 0 → Type 0
 Entries Q [] R = R
 Entries Q (x ∷ l) R = Q 0 x → Entries (λ i. Q (suc i)) l R
 
@@ -75,7 +75,7 @@ later Q [] f r = f r
 later Q (x ∷ l) f e = λ q. later (λ i. Q (suc i)) l f (e q)
 
 -- what holds of each entry at its place, and of the default at every place, holds of what a table gives
-entry : {X : Type 0} (Q : ℕ → X → Type 0) (l : List X) (d : X) → ((i : ℕ) → Q i d) → Entries Q l ((i : ℕ) → Q i (getD l i d))
+pub entry : {X : Type 0} (Q : ℕ → X → Type 0) (l : List X) (d : X) → ((i : ℕ) → Q i d) → Entries Q l ((i : ℕ) → Q i (getD l i d))
 entry Q [] d b = b
 entry Q (x ∷ l) d b = λ q. later (λ i. Q (suc i)) l (first q) (entry (λ i. Q (suc i)) l d (λ i. b (suc i)))
   where

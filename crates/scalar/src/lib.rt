@@ -66,14 +66,16 @@ fn step_of(a: Answer) -> Step
     }
 }
 
-// A binary operator but a shift, by its code, on two operands of one type.
+// A binary operator but a shift, by its code, on two operands of one type. Arithmetic, which is asked for most, is tested for first.
 fn binary_op(op: u8, stage: ShaderStage, p: Pair) -> Answer
     ensures { λ a. ⌜ answerOf a ≡ binaryOf op stage p ⌝ }
 {
+    if (3 <= op) & (op <= 7) {
+        return arithmetic::arithmetic_pair(op, stage, p);
+    }
     match op {
         1 => logical::or_pair(p),
         2 => logical::and_pair(p),
-        3 | 4 | 5 | 6 | 7 => arithmetic::arithmetic_pair(op, stage, p),
         8 | 9 | 10 | 11 | 12 | 13 => comparison::compare(op, p),
         14 | 15 | 16 => bits::bits_pair(op, p),
         _ => Answer::Binary,
@@ -118,6 +120,22 @@ pub fn binary_step(op: u8, stage: u8, ty: u8, l: u64, r: u64) -> Step
         return step_of(shift_op(op, at, x, pattern::scalar_of(4, r)));
     }
     step_of(binary_op(op, at, pattern::pair_of(ty, l, r)))
+}
+
+// The product of two patterns of one type, by a kernel where the type has one: the same as the step of code 5.
+pub fn product(stage: u8, ty: u8, l: u64, r: u64) -> Step
+    ensures { λ a. ⌜ a ≡ stepOf 5 stage ty l r ⌝ }
+{
+    if ty == 2 {
+        return products::f64_times(stage, l, r);
+    }
+    if (ty == 5) & (l < 0x1_0000_0000) & (r < 0x1_0000_0000) {
+        return products::f32_times(stage, l as u32, r as u32);
+    }
+    if (ty == 6) & (l < 0x1_0000) & (r < 0x1_0000) {
+        return products::half_times(stage, l as u16, r as u16);
+    }
+    binary_step(5, stage, ty, l, r)
 }
 
 // The product of two patterns of one type, and the sum with it.

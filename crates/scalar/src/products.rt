@@ -1,4 +1,4 @@
-// The sum with a product, which a matrix product does at each of its steps.
+// The product, with which a matrix product begins, and the sum with a product, which it does at each of its further steps.
 use crate::Step;
 use crate::binary_step;
 use crate::refuse;
@@ -15,7 +15,7 @@ ghost use mathlib.Core.Bool.{_&&_, not};
 ghost use mathlib.Core.Path.{_≡_};
 ghost use Rattle.value.specs.Answer.{refusal};
 ghost use Rattle.value.specs.Pattern.{pick};
-ghost use Rattle.scalar.specs.Step.{productAdded};
+ghost use Rattle.scalar.specs.Step.{stepOf, productAdded};
 
 // In any type: one step, and another with its bits.
 pub(crate) fn any_product(stage: u8, ty: u8, sum: u64, l: u64, r: u64) -> Step
@@ -28,6 +28,42 @@ pub(crate) fn any_product(stage: u8, ty: u8, sum: u64, l: u64, r: u64) -> Step
     binary_step(3, stage, ty, sum, p)
 }
 
+// A result's bits; or, where finite results are asked for, the refusal of one that is not finite.
+fn checked(asked: bool, finite: bool, number: u8, ty: u8, bits: u64) -> Step
+    ensures { λ a. ⌜ a ≡ pick (asked && not finite) (Step.Refused (refusal number 0)) (Step.Bits ty bits) ⌝ }
+{
+    if asked & !finite {
+        return refuse(number, 0);
+    }
+    Step::Bits(ty, bits)
+}
+
+// The product in F32: Const and Override, the codes below 2, ask for finite results.
+pub(crate) fn f32_times(stage: u8, l: u32, r: u32) -> Step
+    ensures { λ a. ⌜ a ≡ stepOf 5 stage 5 l r ⌝ }
+{
+    let p = f32_of_bits(l) * f32_of_bits(r);
+    let bits = f32_bits(p) as u64;
+    checked(stage < 2, finite_f32(p), 6, 5, bits)
+}
+
+// The product in F64: every stage asks for finite results.
+pub(crate) fn f64_times(stage: u8, l: u64, r: u64) -> Step
+    ensures { λ a. ⌜ a ≡ stepOf 5 stage 2 l r ⌝ }
+{
+    let p = f64_of_bits(l) * f64_of_bits(r);
+    checked(true, finite_f64(p), 6, 2, f64_bits(p))
+}
+
+// The product in F16: worked in F32 and rounded; finite results are asked for as in F32.
+pub(crate) fn half_times(stage: u8, l: u16, r: u16) -> Step
+    ensures { λ a. ⌜ a ≡ stepOf 5 stage 6 l r ⌝ }
+{
+    let p = f32_to_half(half_to_f32(l) * half_to_f32(r));
+    let bits = p as u64;
+    checked(stage < 2, finite_half(p), 6, 6, bits)
+}
+
 // The sum's bits; or, where finite results are asked for, the refusal of a product that is not finite, and then that of a sum.
 fn outcome(asked: bool, product: bool, sum: bool, ty: u8, bits: u64) -> Step
     ensures { λ a. ⌜ a ≡ pick (asked && not product) (Step.Refused (refusal 6 0)) (pick (asked && not sum) (Step.Refused (refusal 4 0)) (Step.Bits ty bits)) ⌝ }
@@ -35,13 +71,10 @@ fn outcome(asked: bool, product: bool, sum: bool, ty: u8, bits: u64) -> Step
     if asked & !product {
         return refuse(6, 0);
     }
-    if asked & !sum {
-        return refuse(4, 0);
-    }
-    Step::Bits(ty, bits)
+    checked(asked, sum, 4, ty, bits)
 }
 
-// In F32: Const and Override, the codes below 2, ask for finite results.
+// The sum with a product in F32.
 pub(crate) fn f32_product(stage: u8, sum: u32, l: u32, r: u32) -> Step
     ensures { λ a. ⌜ a ≡ productAdded stage 5 sum l r ⌝ }
 {
@@ -52,7 +85,7 @@ pub(crate) fn f32_product(stage: u8, sum: u32, l: u32, r: u32) -> Step
     outcome(stage < 2, finite_f32(p), finite_f32(t), 5, bits)
 }
 
-// In F64: every stage asks for finite results.
+// The sum with a product in F64.
 pub(crate) fn f64_product(stage: u8, sum: u64, l: u64, r: u64) -> Step
     ensures { λ a. ⌜ a ≡ productAdded stage 2 sum l r ⌝ }
 {
@@ -61,7 +94,7 @@ pub(crate) fn f64_product(stage: u8, sum: u64, l: u64, r: u64) -> Step
     outcome(true, finite_f64(p), finite_f64(t), 2, f64_bits(t))
 }
 
-// In F16: each of the two worked in F32 and rounded; finite results are asked for as in F32.
+// The sum with a product in F16: each of the two worked in F32 and rounded.
 pub(crate) fn half_product(stage: u8, sum: u16, l: u16, r: u16) -> Step
     ensures { λ a. ⌜ a ≡ productAdded stage 6 sum l r ⌝ }
 {

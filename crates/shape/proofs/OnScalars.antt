@@ -1,5 +1,5 @@
 -- Scalars: what an operator gives on them by components is one step on their converted patterns. Assumes nothing.
-use mathlib.Core.Path.{_≡_, refl, sym, ap, _∙_}
+use mathlib.Core.Path.{_≡_, refl, sym, ap, subst, _∙_}
 use mathlib.Core.Bool.{Bool, true, false, not, _&&_}
 use mathlib.Core.List.{List, _∷_}
 use Prim.Native.Nat.{ℕ}
@@ -12,7 +12,8 @@ use Rattle.value.specs.declared.Refusal.{Refusal}
 use Rattle.scalar.specs.declared.Step.{Step}
 use Rattle.scalar.specs.declared.Step.the-variants as S
 use Rattle.value.specs.Pattern.{pick, properOf}
-use Rattle.scalar.specs.Step.{stepOf, unaryStepOf, convOf}
+use Rattle.scalar.specs.Step.{refusal, stepOf, unaryStepOf, convOf}
+use Rattle.scalar.proofs.Rights.{Righted, unary-righted, rightless}
 use Rattle.types.specs.Types.{rightOf, unaryRightOf, resultType}
 use Rattle.operand.specs.Operand.{shapeOk, shapeOf, isScalar, isMatrix, componentCount, upTo, every, componentAt, operandFormed, aScalar}
 use Rattle.components.specs.Components.{Out, got, stop, allOrRefusal, eachComponent, stepResult, convResult, binaryAt, unaryAt, lane, convertedAt}
@@ -90,15 +91,41 @@ module _ (op stage ty : ℕ) where
       go true = refl
       go false = refl
 
-  pub operated : (p q : ℕ) → onScalars op stage ty p q ≡ refuseUnless (rightOf op ty) 2 (onResult (stepResult (stepOf op stage ty p q)) (scalarAnswer (resultType op ty)))
-  operated p q = checks-one _ _ ∙ ap (refuseUnless (rightOf op ty) 2) (component-one p q (replicate 15 0) (replicate 15 0))
+  -- a step answers for the right as well: without it, it refuses with Binary
+  pub operated : (p q : ℕ) → onScalars op stage ty p q ≡ onResult (stepResult (stepOf op stage ty p q)) (scalarAnswer (resultType op ty))
+  operated p q = checks-one _ _ ∙ ap (refuseUnless (rightOf op ty) 2) (component-one p q (replicate 15 0) (replicate 15 0)) ∙ go (rightOf op ty) refl
+    where
+      go : (t : Bool) → rightOf op ty ≡ t → refuseUnless t 2 (onResult (stepResult (stepOf op stage ty p q)) (scalarAnswer (resultType op ty)))
+          ≡ onResult (stepResult (stepOf op stage ty p q)) (scalarAnswer (resultType op ty))
+      go true e = refl
+      go false e = ap (λ (s : Step). onResult (stepResult s) (scalarAnswer (resultType op ty))) (sym (rightless op stage ty p q e))
 
 -- a unary operator on a scalar
-pub unary-one : (op ty b : ℕ) → unaryJudged op (aScalar ty b) ≡ refuseUnless (unaryRightOf op ty) 1 (onResult (stepResult (unaryStepOf op ty b)) (scalarAnswer ty))
+unary-one : (op ty b : ℕ) → unaryJudged op (aScalar ty b) ≡ refuseUnless (unaryRightOf op ty) 1 (onResult (stepResult (unaryStepOf op ty b)) (scalarAnswer ty))
 unfolding unaryJudged
 unary-one op ty b =
     ap (λ (o : Out (List ℕ)). refuseUnless (unaryRightOf op ty) 1 (shapedAnswer o ty 1 1)) (each-one (unaryAt op ty (aScalar ty b .comps)))
     ∙ ap (refuseUnless (unaryRightOf op ty) 1) (answer-one (stepResult (unaryStepOf op ty b)) ty)
+
+-- a unary step answers for the right as well: its refusal is Unary, right or not, and its bits come with the right
+module _ (op ty b : ℕ) (s : Step) (e : s ≡ unaryStepOf op ty b) (t : Step) (h : s ≡ t) where
+  unary-step : refuseUnless (unaryRightOf op ty) 1 (onResult (stepResult t) (scalarAnswer ty)) ≡ unaryJudged op (aScalar ty b)
+  unary-step = ap (λ (t : Step). refuseUnless (unaryRightOf op ty) 1 (onResult (stepResult t) (scalarAnswer ty))) (sym h ∙ e) ∙ sym (unary-one op ty b)
+
+  righted : Righted (unaryRightOf op ty) t
+  righted = subst (Righted (unaryRightOf op ty)) (sym e ∙ h) (unary-righted op ty b)
+
+module _ (op ty b : ℕ) (s : Step) (e : s ≡ unaryStepOf op ty b) (v : Outcome) where
+  pub unary-refused : (r : Refusal) → s ≡ S.Refused r → v ≡ refusedWith 1 0 → v ≡ unaryJudged op (aScalar ty b)
+  unary-refused r h q = q ∙ go (unaryRightOf op ty) (righted op ty b s e (S.Refused r) h) ∙ unary-step op ty b s e (S.Refused r) h
+    where
+      go : (t : Bool) → r ≡ refusal 1 0 → refusedWith 1 0 ≡ refuseUnless t 1 (refusedWith (r .number) (r .detail))
+      go true k = ap (λ (r : Refusal). refusedWith (r .number) (r .detail)) (sym k)
+      go false k = refl
+
+  pub unary-bits : (t x : ℕ) → s ≡ S.Bits t x → v ≡ scalarAnswer ty x → v ≡ unaryJudged op (aScalar ty b)
+  unary-bits t x h q =
+      q ∙ ap (λ (p : Bool). refuseUnless p 1 (scalarAnswer ty x)) (sym (righted op ty b s e (S.Bits t x) h)) ∙ unary-step op ty b s e (S.Bits t x) h
 
 -- ---- conversions
 -- two scalars by their types and patterns, their conversions one after the other

@@ -36,11 +36,22 @@ pub fn unary(op: u8, stage: u8, v: Instance) -> Outcome
         let step = scalars::unary(op, stage, v.ty, v.comps[0]);
         return scalars::settled(step);
     }
-    let fault = call_fault(unary_known(op), stage, formed(v));
+    any_unary(op, stage, v)
+}
+
+// The same in any shape.
+fn any_unary(op: u8, stage: u8, v: Instance) -> Outcome
+    ensures { λ o. ⌜ o ≡ unaryMeaning op stage v ⌝ }
+{
+    let s = Shape {
+        cols: v.cols,
+        rows: v.rows,
+    };
+    let fault = call_fault(unary_known(op), stage, formed(v.ty, s, &v.comps));
     if fault != 0 {
         return refused(fault, 0);
     }
-    dispatch::unary_judge(op, v)
+    dispatch::unary_judge(op, v.ty, s, &v.comps)
 }
 
 // The binary operator of a code on two scalars, by their types and patterns.
@@ -66,9 +77,29 @@ pub fn binary(op: u8, stage: u8, l: Instance, r: Instance) -> Outcome
         let step = scalars::binary(op, stage, l.ty, l.comps[0], r.ty, r.comps[0]);
         return scalars::settled(step);
     }
-    let fault = call_fault(op_known(op), stage, formed(l) & formed(r));
+    any_binary(op, stage, l, r)
+}
+
+// The same in any shapes.
+fn any_binary(op: u8, stage: u8, l: Instance, r: Instance) -> Outcome
+    ensures { λ o. ⌜ o ≡ binaryMeaning op stage l r ⌝ }
+{
+    let a = Shape {
+        cols: l.cols,
+        rows: l.rows,
+    };
+    let b = Shape {
+        cols: r.cols,
+        rows: r.rows,
+    };
+    let known = op_known(op);
+    let fault = call_fault(
+        known,
+        stage,
+        formed(l.ty, a, &l.comps) & formed(r.ty, b, &r.comps),
+    );
     if fault != 0 {
         return refused(fault, 0);
     }
-    dispatch::judge(op, stage, l, r)
+    dispatch::judge(op, stage, l.ty, a, &l.comps, r.ty, b, &r.comps)
 }

@@ -50,7 +50,7 @@ pub(crate) fn settled(step: Step) -> Outcome
     }
 }
 
-// A unary operator: operator and stage are judged first, then the operand, then the type's right.
+// A unary operator: operator and stage are judged first, then the operand. The step refuses a type without the right, and nothing else.
 pub(crate) fn unary(op: u8, stage: u8, ty: u8, bits: u64) -> Step
     ensures { λ s. ⌜ stepAnswer s ≡ unaryMeaning op stage (aScalar ty bits) ⌝ }
 {
@@ -63,23 +63,17 @@ pub(crate) fn unary(op: u8, stage: u8, ty: u8, bits: u64) -> Step
     if !value::proper(ty, bits) {
         return refuse(26);
     }
-    if !types::unary_right(op, ty) {
-        return refuse(1);
-    }
     let step = scalar::unary_step(op, ty, bits);
     let Step::Bits(_, answer) = step else {
-        return step;
+        return refuse(1);
     };
     Step::Bits(ty, answer)
 }
 
-// Two converted patterns: the type's right, and one step.
+// Two converted patterns: one step, which refuses a type without the right.
 fn operate(op: u8, stage: u8, ty: u8, p: u64, q: u64) -> Step
     ensures { λ s. ⌜ stepAnswer s ≡ onScalars op stage ty p q ⌝ }
 {
-    if !types::right(op, ty) {
-        return refuse(2);
-    }
     let step = scalar::binary_step(op, stage, ty, p, q);
     let Step::Bits(_, bits) = step else {
         return step;

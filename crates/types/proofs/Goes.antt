@@ -30,9 +30,6 @@ module _ (a b : ℕ) (e : goesTo a b ≡ true) where
   parts : ((abstractOf a && not (eqb a b)) ≡ true) × ((floatOf b || (eqb (classOf a) signed && integerOf b)) ≡ true)
   parts = both (abstractOf a && not (eqb a b)) _ e
 
-  pub goes-from : knownOf a ≡ true
-  goes-from = both (knownOf a) _ (both (abstractOf a) _ (parts .0) .0) .0
-
 pub goes-known : (a b : ℕ) → goesTo a b ≡ true → knownOf b ≡ true
 goes-known a b e =
     by-code (λ b. (floatOf b || (eqb (classOf a) signed && integerOf b)) ≡ true → knownOf b ≡ true)

@@ -1,7 +1,6 @@
 -- 01, Operands: the patterns of the seven types, and which NaN is kept. Assumes nothing.
-use Prim.Native.Nat.{ℕ, _*_, _%_, _^_}
-use mathlib.Core.Path.{_≡_}
-use mathlib.Core.Bool.{Bool, true, _&&_}
+use Prim.Native.Nat.{ℕ, _*_, _%_, _^_, _<_}
+use mathlib.Core.Bool.{Bool, _&&_}
 use mathlib.Core.List.{[], _∷_}
 use lib.Dec.{ltb}
 use lib.ListN.{getD}
@@ -26,5 +25,6 @@ unfoldable pub keptOf : ℕ → ℕ → ℕ
 keptOf ty b = getD (b ∷ b ∷ oneNan double 0x7FF8000000000000 b ∷ b ∷ b ∷ oneNan single 0x7FC00000 b ∷ oneNan half 0x7E00 b ∷ []) ty b
 
 -- ---- for the contracts of private functions
-pub record Proper (ty b : ℕ) : Type 0 where
-  pub holds : properOf ty b ≡ true
+-- no more bits than the type's width; a code that names no type has the width 0
+pub record Narrow (ty b : ℕ) : Type 0 where
+  pub narrow : b < 2 ^ widthOf ty

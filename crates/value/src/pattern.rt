@@ -5,7 +5,7 @@ use crate::Scalar;
 use integer::patterns;
 ghost use mathlib.Core.Path.{_≡_};
 ghost use Rattle.value.specs.Pair.{bothOf};
-ghost use Rattle.value.specs.Pattern.{keptOf, Proper};
+ghost use Rattle.value.specs.Pattern.{keptOf, Narrow};
 ghost use Rattle.value.specs.Scalar.{bitsOf, scalarAt, scalarOf};
 
 // The pattern of an F16 as it is kept.
@@ -33,9 +33,9 @@ pub fn bits_of(s: Scalar) -> u64
     }
 }
 
-// The scalar of a type and one of its patterns.
+// The scalar of a type and a pattern that is not too wide for it.
 fn scalar_at(ty: u8, bits: u64) -> Found
-    requires { ⌜ Proper ty bits ⌝ }
+    requires { ⌜ Narrow ty bits ⌝ }
     ensures { λ r. ⌜ r ≡ scalarAt ty bits ⌝ }
 {
     match ty {
@@ -60,10 +60,10 @@ pub fn scalar_of(ty: u8, bits: u64) -> Found
     Found::Nothing
 }
 
-// The pair of two patterns of a type.
+// The pair of two patterns that are not too wide for a type.
 fn pair_at(ty: u8, l: u64, r: u64) -> Pair
-    requires { ⌜ Proper ty l ⌝ }
-    requires { ⌜ Proper ty r ⌝ }
+    requires { ⌜ Narrow ty l ⌝ }
+    requires { ⌜ Narrow ty r ⌝ }
     ensures { λ p. ⌜ p ≡ bothOf (scalarAt ty l) (scalarAt ty r) ⌝ }
 {
     match ty {
@@ -84,11 +84,12 @@ fn pair_at(ty: u8, l: u64, r: u64) -> Pair
     }
 }
 
-// The pair of two patterns of one type, if both are proper.
+// The pair of two patterns of one type, if both are proper; the type's row is asked for once, and a code that names no type has no pair.
 pub fn pair_of(ty: u8, l: u64, r: u64) -> Pair
     ensures { λ p. ⌜ p ≡ bothOf (scalarOf ty l) (scalarOf ty r) ⌝ }
 {
-    if crate::proper(ty, l) & crate::proper(ty, r) {
+    let most = types::most(ty);
+    if (l <= most) & (r <= most) {
         return pair_at(ty, l, r);
     }
     Pair::None

@@ -10,42 +10,6 @@ use borrow.Author.Needs.{needs}
 use Rattle.arithmetic.proofs.arithmetic_pair.Statement.{statement}
 use Rattle.arithmetic.proofs.arithmetic_pair.Tie as tie
 
-enum-known-p : tie.Need-enum-known-p
-enum-known-p c = search needs
-
-whole-arithmetic-requires : tie.Need-whole-arithmetic-requires
-whole-arithmetic-requires c κs = search needs
-
-enum-known-p-2 : tie.Need-enum-known-p-2
-enum-known-p-2 c = search needs
-
-double-answer-requires : tie.Need-double-answer-requires
-double-answer-requires c κs = search needs
-
-enum-known-p-3 : tie.Need-enum-known-p-3
-enum-known-p-3 c = search needs
-
-signed-arithmetic-requires : tie.Need-signed-arithmetic-requires
-signed-arithmetic-requires c κs = search needs
-
-enum-known-p-4 : tie.Need-enum-known-p-4
-enum-known-p-4 c = search needs
-
-unsigned-arithmetic-requires : tie.Need-unsigned-arithmetic-requires
-unsigned-arithmetic-requires c κs = search needs
-
-enum-known-p-5 : tie.Need-enum-known-p-5
-enum-known-p-5 c = search needs
-
-single-answer-requires : tie.Need-single-answer-requires
-single-answer-requires c κs = search needs
-
-enum-known-p-6 : tie.Need-enum-known-p-6
-enum-known-p-6 c = search needs
-
-half-answer-requires : tie.Need-half-answer-requires
-half-answer-requires c κs = search needs
-
 returns : tie.Need-returns
 returns c =
     let a = c .before .before .before .before .args in
@@ -80,23 +44,6 @@ returns-7 c = let a = c .before .args in no-numbers (a .op) (a .stage) (a .p) (c
 pub arithmetic-pair-spec : {M : Type 1} → statement M
 arithmetic-pair-spec =
     tie.close
-    (tie.spec
-    enum-known-p
-    whole-arithmetic-requires
-    enum-known-p-2
-    double-answer-requires
-    enum-known-p-3
-    signed-arithmetic-requires
-    enum-known-p-4
-    unsigned-arithmetic-requires
-    enum-known-p-5
-    single-answer-requires
-    enum-known-p-6
-    half-answer-requires
-    returns
-    returns-2
-    returns-3
-    returns-4
-    returns-5
-    returns-6
-    returns-7)
+    (tie.spec (λ c. search needs) (λ c κs. search needs) (λ c. search needs) (λ c κs. search needs) (λ c. search needs) (λ c κs. search needs)
+    (λ c. search needs) (λ c κs. search needs) (λ c. search needs) (λ c κs. search needs) (λ c. search needs) (λ c κs. search needs) returns returns-2
+    returns-3 returns-4 returns-5 returns-6 returns-7)

@@ -6,19 +6,10 @@ use borrow.Author.Needs.{needs}
 use Rattle.arithmetic.proofs.double_answer.Statement.{statement}
 use Rattle.arithmetic.proofs.double_answer.Tie as tie
 
-double-arithmetic-requires : tie.Need-double-arithmetic-requires
-double-arithmetic-requires c κs = search needs
-
-finite-f64-requires : tie.Need-finite-f64-requires
-finite-f64-requires c κs = search needs
-
 returns : tie.Need-returns
 returns c =
     let a = c .before .before .before .args in
     double-arm (a .op) (a .stage) (a .x) (a .y) (picked _ _ (sym (c .before .finite-f64 .ensures) ∙ c .if1 .taken)) (c .before .before .double-arithmetic .ensures)
-
-not-finite-requires : tie.Need-not-finite-requires
-not-finite-requires c κs = search needs
 
 returns-2 : tie.Need-returns-2
 returns-2 c =
@@ -28,6 +19,4 @@ returns-2 c =
     (c .before .before .before .double-arithmetic .ensures)
 
 pub double-answer-spec : {M : Type 1} → statement M
-double-answer-spec =
-    tie.close
-    (tie.spec double-arithmetic-requires finite-f64-requires returns not-finite-requires returns-2)
+double-answer-spec = tie.close (tie.spec (λ c κs. search needs) (λ c κs. search needs) returns (λ c κs. search needs) returns-2)

@@ -6,19 +6,10 @@ use borrow.Author.Needs.{needs}
 use Rattle.arithmetic.proofs.half_answer.Statement.{statement}
 use Rattle.arithmetic.proofs.half_answer.Tie as tie
 
-half-arithmetic-requires : tie.Need-half-arithmetic-requires
-half-arithmetic-requires c κs = search needs
-
-finite-half-requires : tie.Need-finite-half-requires
-finite-half-requires c κs = search needs
-
 returns : tie.Need-returns
 returns c =
     let a = c .before .before .before .args in
     halves-arm (a .op) (a .stage) (a .x) (a .y) (picked _ _ (sym (c .before .finite-half .ensures) ∙ c .if1 .taken)) (c .before .before .half-arithmetic .ensures)
-
-not-finite-requires : tie.Need-not-finite-requires
-not-finite-requires c κs = search needs
 
 returns-2 : tie.Need-returns-2
 returns-2 c =
@@ -28,6 +19,4 @@ returns-2 c =
     (c .before .before .before .half-arithmetic .ensures)
 
 pub half-answer-spec : {M : Type 1} → statement M
-half-answer-spec =
-    tie.close
-    (tie.spec half-arithmetic-requires finite-half-requires returns not-finite-requires returns-2)
+half-answer-spec = tie.close (tie.spec (λ c κs. search needs) (λ c κs. search needs) returns (λ c κs. search needs) returns-2)

@@ -5,9 +5,6 @@ use borrow.Author.Needs.{needs}
 use Rattle.arithmetic.proofs.in_exec.Statement.{statement}
 use Rattle.arithmetic.proofs.in_exec.Tie as tie
 
-strict-requires : tie.Need-strict-requires
-strict-requires c κs = search needs
-
 returns : tie.Need-returns
 returns c = picked _ _ (sym (c .before .strict .ensures) ∙ c .if1 .taken)
 
@@ -15,4 +12,4 @@ returns-2 : tie.Need-returns-2
 returns-2 c = passed _ _ (sym (c .before .strict .ensures) ∙ c .if1 .left)
 
 pub in-exec-spec : {M : Type 1} → statement M
-in-exec-spec = tie.close (tie.spec strict-requires returns returns-2)
+in-exec-spec = tie.close (tie.spec (λ c κs. search needs) returns returns-2)

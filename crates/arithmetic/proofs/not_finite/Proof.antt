@@ -5,21 +5,6 @@ use borrow.Author.Needs.{needs}
 use Rattle.arithmetic.proofs.not_finite.Statement.{statement}
 use Rattle.arithmetic.proofs.not_finite.Tie as tie
 
-in-exec-requires : tie.Need-in-exec-requires
-in-exec-requires c κs = search needs
-
-in-exec-requires-2 : tie.Need-in-exec-requires-2
-in-exec-requires-2 c κs = search needs
-
-in-exec-requires-3 : tie.Need-in-exec-requires-3
-in-exec-requires-3 c κs = search needs
-
-in-exec-requires-4 : tie.Need-in-exec-requires-4
-in-exec-requires-4 c κs = search needs
-
-in-exec-requires-5 : tie.Need-in-exec-requires-5
-in-exec-requires-5 c κs = search needs
-
 returns : tie.Need-returns
 returns c = rw (c .before .match .keys1) (c .in-exec .ensures)
 
@@ -38,14 +23,5 @@ returns-5 c = let a = c .before .before .args in c .in-exec5 .ensures ∙ last-r
 pub not-finite-spec : {M : Type 1} → statement M
 not-finite-spec =
     tie.close
-    (tie.spec
-    in-exec-requires
-    in-exec-requires-2
-    in-exec-requires-3
-    in-exec-requires-4
-    in-exec-requires-5
-    returns
-    returns-2
-    returns-3
-    returns-4
-    returns-5)
+    (tie.spec (λ c κs. search needs) (λ c κs. search needs) (λ c κs. search needs) (λ c κs. search needs) (λ c κs. search needs) returns returns-2
+    returns-3 returns-4 returns-5)

@@ -6,14 +6,8 @@ use borrow.Author.Needs.{needs}
 use Rattle.arithmetic.proofs.op_mul.Statement.{statement}
 use Rattle.arithmetic.proofs.op_mul.Tie as tie
 
-common-requires : tie.Need-common-requires
-common-requires c κs = search needs
-
-arithmetic-pair-requires : tie.Need-arithmetic-pair-requires
-arithmetic-pair-requires c κs = search needs
-
 returns : tie.Need-returns
 returns c = c .arithmetic-pair .ensures ∙ ap (λ (p : Pair). mulOf (c .before .before .args .stage) p) (c .before .common .ensures)
 
 pub op-mul-spec : {M : Type 1} → statement M
-op-mul-spec = tie.close (tie.spec common-requires arithmetic-pair-requires returns)
+op-mul-spec = tie.close (tie.spec (λ c κs. search needs) (λ c κs. search needs) returns)

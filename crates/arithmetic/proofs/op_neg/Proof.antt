@@ -13,30 +13,6 @@ use borrow.Author.Needs.{needs}
 use Rattle.arithmetic.proofs.op_neg.Statement.{statement}
 use Rattle.arithmetic.proofs.op_neg.Tie as tie
 
-enum-known-s : tie.Need-enum-known-s
-enum-known-s c = search needs
-
-neg-i64-requires : tie.Need-neg-i64-requires
-neg-i64-requires c κs = search needs
-
-enum-known-s-2 : tie.Need-enum-known-s-2
-enum-known-s-2 c = search needs
-
-enum-known-s-3 : tie.Need-enum-known-s-3
-enum-known-s-3 c = search needs
-
-neg-i32-requires : tie.Need-neg-i32-requires
-neg-i32-requires c κs = search needs
-
-enum-known-s-4 : tie.Need-enum-known-s-4
-enum-known-s-4 c = search needs
-
-enum-known-s-5 : tie.Need-enum-known-s-5
-enum-known-s-5 c = search needs
-
-neg-half-requires : tie.Need-neg-half-requires
-neg-half-requires c κs = search needs
-
 returns : tie.Need-returns
 returns c =
     let p = c .before .before .s .given in
@@ -66,18 +42,5 @@ returns-6 c = no-sign (c .before .args .s) (c .match .keys6)
 pub op-neg-spec : {M : Type 1} → statement M
 op-neg-spec =
     tie.close
-    (tie.spec
-    enum-known-s
-    neg-i64-requires
-    enum-known-s-2
-    enum-known-s-3
-    neg-i32-requires
-    enum-known-s-4
-    enum-known-s-5
-    neg-half-requires
-    returns
-    returns-2
-    returns-3
-    returns-4
-    returns-5
-    returns-6)
+    (tie.spec (λ c. search needs) (λ c κs. search needs) (λ c. search needs) (λ c. search needs) (λ c κs. search needs) (λ c. search needs)
+    (λ c. search needs) (λ c κs. search needs) returns returns-2 returns-3 returns-4 returns-5 returns-6)

@@ -13,33 +13,6 @@ use borrow.Author.Needs.{needs}
 use Rattle.arithmetic.proofs.signed_arithmetic.Statement.{statement}
 use Rattle.arithmetic.proofs.signed_arithmetic.Tie as tie
 
-add-i32-requires : tie.Need-add-i32-requires
-add-i32-requires c κs = search needs
-
-sub-i32-requires : tie.Need-sub-i32-requires
-sub-i32-requires c κs = search needs
-
-mul-i32-requires : tie.Need-mul-i32-requires
-mul-i32-requires c κs = search needs
-
-div-i32-requires : tie.Need-div-i32-requires
-div-i32-requires c κs = search needs
-
-in-exec-requires : tie.Need-in-exec-requires
-in-exec-requires c κs = search needs
-
-signed-quotient-or-requires : tie.Need-signed-quotient-or-requires
-signed-quotient-or-requires c κs = search needs
-
-rem-i32-requires : tie.Need-rem-i32-requires
-rem-i32-requires c κs = search needs
-
-in-exec-requires-2 : tie.Need-in-exec-requires-2
-in-exec-requires-2 c κs = search needs
-
-signed-quotient-or-requires-2 : tie.Need-signed-quotient-or-requires-2
-signed-quotient-or-requires-2 c κs = search needs
-
 returns : tie.Need-returns
 returns c =
     let a = c .before .before .args in
@@ -85,18 +58,5 @@ returns-5 c =
 pub signed-arithmetic-spec : {M : Type 1} → statement M
 signed-arithmetic-spec =
     tie.close
-    (tie.spec
-    add-i32-requires
-    sub-i32-requires
-    mul-i32-requires
-    div-i32-requires
-    in-exec-requires
-    signed-quotient-or-requires
-    rem-i32-requires
-    in-exec-requires-2
-    signed-quotient-or-requires-2
-    returns
-    returns-2
-    returns-3
-    returns-4
-    returns-5)
+    (tie.spec (λ c κs. search needs) (λ c κs. search needs) (λ c κs. search needs) (λ c κs. search needs) (λ c κs. search needs)
+    (λ c κs. search needs) (λ c κs. search needs) (λ c κs. search needs) (λ c κs. search needs) returns returns-2 returns-3 returns-4 returns-5)

@@ -6,19 +6,10 @@ use borrow.Author.Needs.{needs}
 use Rattle.arithmetic.proofs.single_answer.Statement.{statement}
 use Rattle.arithmetic.proofs.single_answer.Tie as tie
 
-single-arithmetic-requires : tie.Need-single-arithmetic-requires
-single-arithmetic-requires c κs = search needs
-
-finite-f32-requires : tie.Need-finite-f32-requires
-finite-f32-requires c κs = search needs
-
 returns : tie.Need-returns
 returns c =
     let a = c .before .before .before .args in
     single-arm (a .op) (a .stage) (a .x) (a .y) (picked _ _ (sym (c .before .finite-f32 .ensures) ∙ c .if1 .taken)) (c .before .before .single-arithmetic .ensures)
-
-not-finite-requires : tie.Need-not-finite-requires
-not-finite-requires c κs = search needs
 
 returns-2 : tie.Need-returns-2
 returns-2 c =
@@ -28,6 +19,4 @@ returns-2 c =
     (c .before .before .before .single-arithmetic .ensures)
 
 pub single-answer-spec : {M : Type 1} → statement M
-single-answer-spec =
-    tie.close
-    (tie.spec single-arithmetic-requires finite-f32-requires returns not-finite-requires returns-2)
+single-answer-spec = tie.close (tie.spec (λ c κs. search needs) (λ c κs. search needs) returns (λ c κs. search needs) returns-2)

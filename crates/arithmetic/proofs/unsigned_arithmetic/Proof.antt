@@ -11,34 +11,13 @@ use borrow.Author.Needs.{needs}
 use Rattle.arithmetic.proofs.unsigned_arithmetic.Statement.{statement}
 use Rattle.arithmetic.proofs.unsigned_arithmetic.Tie as tie
 
-add-u32-requires : tie.Need-add-u32-requires
-add-u32-requires c κs = search needs
-
-sub-u32-requires : tie.Need-sub-u32-requires
-sub-u32-requires c κs = search needs
-
-mul-u32-requires : tie.Need-mul-u32-requires
-mul-u32-requires c κs = search needs
-
-in-exec-requires : tie.Need-in-exec-requires
-in-exec-requires c κs = search needs
-
 returns : tie.Need-returns
 returns c = rw (c .before .before .match .keys4) (c .in-exec .ensures ∙ picked _ _ (eq-eqb _ 0 (c .before .if1 .taken)))
-
-div-t15 : tie.Need-div-t15
-div-t15 c = search needs
-
-in-exec-requires-2 : tie.Need-in-exec-requires-2
-in-exec-requires-2 c κs = search needs
 
 returns-2 : tie.Need-returns-2
 returns-2 c =
     let a = c .before .before .before .args in
     c .in-exec2 .ensures ∙ picked _ _ (eq-eqb _ 0 (c .before .if2 .taken)) ∙ last-answer (a .op) (a .stage) (P.U32 (a .x) (a .y)) (c .before .before .match .rest)
-
-rem-t20 : tie.Need-rem-t20
-rem-t20 c = search needs
 
 returns-3 : tie.Need-returns-3
 returns-3 c = rw (c .before .match .keys1) (ap (λ (n : ℕ). value (U32 n)) (c .add-u32 .ensures))
@@ -60,18 +39,5 @@ returns-7 c =
 pub unsigned-arithmetic-spec : {M : Type 1} → statement M
 unsigned-arithmetic-spec =
     tie.close
-    (tie.spec
-    add-u32-requires
-    sub-u32-requires
-    mul-u32-requires
-    in-exec-requires
-    returns
-    div-t15
-    in-exec-requires-2
-    returns-2
-    rem-t20
-    returns-3
-    returns-4
-    returns-5
-    returns-6
-    returns-7)
+    (tie.spec (λ c κs. search needs) (λ c κs. search needs) (λ c κs. search needs) (λ c κs. search needs) returns (λ c. search needs)
+    (λ c κs. search needs) returns-2 (λ c. search needs) returns-3 returns-4 returns-5 returns-6 returns-7)

@@ -15,42 +15,6 @@ use borrow.Author.Needs.{needs}
 use Rattle.arithmetic.proofs.whole_arithmetic.Statement.{statement}
 use Rattle.arithmetic.proofs.whole_arithmetic.Tie as tie
 
-add-i64-requires : tie.Need-add-i64-requires
-add-i64-requires c κs = search needs
-
-whole-or-requires : tie.Need-whole-or-requires
-whole-or-requires c κs = search needs
-
-sub-i64-requires : tie.Need-sub-i64-requires
-sub-i64-requires c κs = search needs
-
-whole-or-requires-2 : tie.Need-whole-or-requires-2
-whole-or-requires-2 c κs = search needs
-
-mul-i64-requires : tie.Need-mul-i64-requires
-mul-i64-requires c κs = search needs
-
-whole-or-requires-3 : tie.Need-whole-or-requires-3
-whole-or-requires-3 c κs = search needs
-
-div-i64-requires : tie.Need-div-i64-requires
-div-i64-requires c κs = search needs
-
-in-exec-requires : tie.Need-in-exec-requires
-in-exec-requires c κs = search needs
-
-whole-quotient-or-requires : tie.Need-whole-quotient-or-requires
-whole-quotient-or-requires c κs = search needs
-
-rem-i64-requires : tie.Need-rem-i64-requires
-rem-i64-requires c κs = search needs
-
-in-exec-requires-2 : tie.Need-in-exec-requires-2
-in-exec-requires-2 c κs = search needs
-
-whole-quotient-or-requires-2 : tie.Need-whole-quotient-or-requires-2
-whole-quotient-or-requires-2 c κs = search needs
-
 returns : tie.Need-returns
 returns c =
     let a = c .before .before .before .args in
@@ -93,21 +57,6 @@ returns-5 c =
 pub whole-arithmetic-spec : {M : Type 1} → statement M
 whole-arithmetic-spec =
     tie.close
-    (tie.spec
-    add-i64-requires
-    whole-or-requires
-    sub-i64-requires
-    whole-or-requires-2
-    mul-i64-requires
-    whole-or-requires-3
-    div-i64-requires
-    in-exec-requires
-    whole-quotient-or-requires
-    rem-i64-requires
-    in-exec-requires-2
-    whole-quotient-or-requires-2
-    returns
-    returns-2
-    returns-3
-    returns-4
-    returns-5)
+    (tie.spec (λ c κs. search needs) (λ c κs. search needs) (λ c κs. search needs) (λ c κs. search needs) (λ c κs. search needs)
+    (λ c κs. search needs) (λ c κs. search needs) (λ c κs. search needs) (λ c κs. search needs) (λ c κs. search needs) (λ c κs. search needs)
+    (λ c κs. search needs) returns returns-2 returns-3 returns-4 returns-5)

@@ -5,17 +5,8 @@ use borrow.Author.Needs.{needs}
 use Rattle.booth.proofs.sheet_change.Statement.{statement}
 use Rattle.booth.proofs.sheet_change.Tie as tie
 
-change-requires : tie.Need-change-requires
-change-requires c κs = search needs
-
-pack-fold-requires : tie.Need-pack-fold-requires
-pack-fold-requires c κs = search needs
-
-same-length : tie.Need-same-length
-same-length c = search needs
-
 returns : tie.Need-returns
 returns c = let e = c .before .before .before .change .ensures in (c .pack-fold .ensures ∙ ap packedFold (e .0), e .1)
 
 pub sheet-change-spec : {M : Type 1} → statement M
-sheet-change-spec = tie.close (tie.spec change-requires pack-fold-requires same-length returns)
+sheet-change-spec = tie.close (tie.spec (λ c κs. search needs) (λ c κs. search needs) (λ c. search needs) returns)

@@ -36,6 +36,6 @@ last c =
 pub converted-spec : {M : Type 1} → statement M
 converted-spec =
     tie.close
-    (tie.spec Inv-loop μ-loop (λ c. turn-first _ _)
-    (λ c. search needs) (λ c. search needs) (λ c κs. search needs) (λ c. search needs) (λ c. search needs) (λ c κs. search needs) refused
-    (λ c. search needs) (λ c. search needs) (λ c. search needs) (λ c. search needs) next (λ c κs. search needs) last)
+    (tie.spec Inv-loop μ-loop (λ c. turn-first _ _) (λ c. search needs) (λ c. search needs) (λ c κs. search needs) (λ c. search needs)
+    (λ c. search needs) (λ c κs. search needs) refused (λ c. search needs) (λ c. search needs) (λ c. search needs) (λ c. search needs) next
+    (λ c κs. search needs) last)

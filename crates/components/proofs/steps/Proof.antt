@@ -42,6 +42,5 @@ last c =
 pub steps-spec : {M : Type 1} → statement M
 steps-spec =
     tie.close
-    (tie.spec Inv-loop μ-loop (λ c. turn-first _ _) left-place right-place
-    (λ c κs. search needs) (λ c. search needs) (λ c. search needs) (λ c κs. search needs) refused
-    (λ c. search needs) (λ c. search needs) (λ c. search needs) (λ c. search needs) next (λ c κs. search needs) last)
+    (tie.spec Inv-loop μ-loop (λ c. turn-first _ _) left-place right-place (λ c κs. search needs) (λ c. search needs) (λ c. search needs)
+    (λ c κs. search needs) refused (λ c. search needs) (λ c. search needs) (λ c. search needs) (λ c. search needs) next (λ c κs. search needs) last)

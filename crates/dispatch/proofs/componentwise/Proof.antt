@@ -35,5 +35,5 @@ returns c =
 pub componentwise-spec : {M : Type 1} → statement M
 componentwise-spec =
     tie.close
-    (tie.spec (λ c κs. search needs) (λ c κs. search needs) (λ c κs. search needs) count-requires steps-requires
-    (λ c κs. search needs) (λ c κs. search needs) returns)
+    (tie.spec (λ c κs. search needs) (λ c κs. search needs) (λ c κs. search needs) count-requires steps-requires (λ c κs. search needs)
+    (λ c κs. search needs) returns)

@@ -33,5 +33,5 @@ common-type c =
 pub judge-spec : {M : Type 1} → statement M
 judge-spec =
     tie.close
-    (tie.spec (λ c κs. search needs) (λ c κs. search needs) no-pair
-    (λ c κs. search needs) (λ c. search needs) (λ c. search needs) (λ c κs. search needs) no-common-type convert-both-requires common-type)
+    (tie.spec (λ c κs. search needs) (λ c κs. search needs) no-pair (λ c κs. search needs) (λ c. search needs) (λ c. search needs)
+    (λ c κs. search needs) no-common-type convert-both-requires common-type)

@@ -33,5 +33,5 @@ matrix-left c =
 pub multiply-spec : {M : Type 1} → statement M
 multiply-spec =
     tie.close
-    (tie.spec (λ c. search needs) (λ c. search needs) (λ c κs. search needs) (λ c κs. search needs) vector-left
-    (λ c. search needs) (λ c. search needs) (λ c. search needs) mul-cells cells-requires (λ c κs. search needs) matrix-left)
+    (tie.spec (λ c. search needs) (λ c. search needs) (λ c κs. search needs) (λ c κs. search needs) vector-left (λ c. search needs)
+    (λ c. search needs) (λ c. search needs) mul-cells cells-requires (λ c κs. search needs) matrix-left)

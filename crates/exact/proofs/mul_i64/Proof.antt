@@ -7,15 +7,6 @@ use borrow.Author.Needs.{needs}
 use Rattle.exact.proofs.mul_i64.Statement.{statement}
 use Rattle.exact.proofs.mul_i64.Tie as tie
 
-size-i64-requires : tie.Need-size-i64-requires
-size-i64-requires c κs = search needs
-
-size-i64-requires-2 : tie.Need-size-i64-requires-2
-size-i64-requires-2 c κs = search needs
-
-product-over-requires : tie.Need-product-over-requires
-product-over-requires c κs = search needs
-
 returns : tie.Need-returns
 returns c =
     let call = c .before .before .before .before in
@@ -25,9 +16,6 @@ returns c =
 mul-with-sign : tie.Need-mul-with-sign
 mul-with-sign c = product-fits w64 _ _ (c .before .product-over .ensures) (c .if1 .left)
 
-with-sign-requires : tie.Need-with-sign-requires
-with-sign-requires c κs = search needs
-
 returns-2 : tie.Need-returns-2
 returns-2 c =
     let call = c .before .before .before .before .before in
@@ -36,12 +24,4 @@ returns-2 c =
 
 pub mul-i64-spec : {M : Type 1} → statement M
 mul-i64-spec =
-    tie.close
-    (tie.spec
-    size-i64-requires
-    size-i64-requires-2
-    product-over-requires
-    returns
-    mul-with-sign
-    with-sign-requires
-    returns-2)
+    tie.close (tie.spec (λ c κs. search needs) (λ c κs. search needs) (λ c κs. search needs) returns mul-with-sign (λ c κs. search needs) returns-2)

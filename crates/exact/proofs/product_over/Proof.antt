@@ -9,11 +9,8 @@ use Rattle.exact.proofs.product_over.Tie as tie
 returns : tie.Need-returns
 returns c = rw (c .if1 .taken, mul-zero)
 
-div-result : tie.Need-div-result
-div-result c = search needs
-
 returns-2 : tie.Need-returns-2
 returns-2 c = product-test w64 _ _ (pos-of-ne-zero (c .if1 .left))
 
 pub product-over-spec : {M : Type 1} → statement M
-product-over-spec = tie.close (tie.spec returns div-result returns-2)
+product-over-spec = tie.close (tie.spec returns (λ c. search needs) returns-2)

@@ -21,11 +21,8 @@ returns-2 c = let a = c .before .before in whole-out (a .args .x -ℤ a .args .y
 sub-add-i64 : tie.Need-sub-add-i64
 sub-add-i64 c = from-zero w64 (c .before .args .x) _ (c .before .fits .x) (c .before .fits .y) (c .if1 .left)
 
-add-i64-requires : tie.Need-add-i64-requires
-add-i64-requires c κs = search needs
-
 returns-3 : tie.Need-returns-3
 returns-3 c = c .add-i64 .ensures ∙ ap wholeOf (added w64 _ _ (c .before .before .fits .x) (c .before .before .fits .y) (c .before .if1 .left))
 
 pub sub-i64-spec : {M : Type 1} → statement M
-sub-i64-spec = tie.close (tie.spec sub-t5 returns returns-2 sub-add-i64 add-i64-requires returns-3)
+sub-i64-spec = tie.close (tie.spec sub-t5 returns returns-2 sub-add-i64 (λ c κs. search needs) returns-3)

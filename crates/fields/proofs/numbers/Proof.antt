@@ -40,17 +40,4 @@ returns : tie.Need-returns Inv-loop μ-loop
 returns c = reading-all (c .before .loop .inv) (λ h. ltb-false _ _ (reading-stop _ _ (c .loop-test .left) h))
 
 pub numbers-spec : {M : Type 1} → statement M
-numbers-spec =
-    tie.close
-    (tie.spec
-    Inv-loop
-    μ-loop
-    loop-holds
-    mul-loop
-    nth-requires
-    mul-xs
-    array-write-xs
-    add-i
-    loop-less
-    loop-again
-    returns)
+numbers-spec = tie.close (tie.spec Inv-loop μ-loop loop-holds mul-loop nth-requires mul-xs array-write-xs add-i loop-less loop-again returns)

@@ -27,6 +27,5 @@ returns-3 c =
 pub evaluate-spec : {M : Type 1} → statement M
 evaluate-spec =
     tie.close
-    (tie.spec
-    (λ c κs. search needs) (λ c. search needs) (λ c. search needs) (λ c κs. search needs) returns (λ c κs. search needs) returns-2 fill-requires
-    (λ c. search needs) returns-3)
+    (tie.spec (λ c κs. search needs) (λ c. search needs) (λ c. search needs) (λ c κs. search needs) returns (λ c κs. search needs) returns-2
+    fill-requires (λ c. search needs) returns-3)

@@ -14,6 +14,5 @@ abbrev μ-loop : tie.MeasureT-loop
 pub script-spec : {M : Type 1} → statement M
 script-spec =
     tie.close
-    (tie.spec
-    Inv-loop μ-loop (λ c. tt) (λ c κs. omega arith) (λ c. omega arith) (λ c. omega arith) (λ c. omega arith) (λ c κs. tt) (λ c. omega arith)
+    (tie.spec Inv-loop μ-loop (λ c. tt) (λ c κs. omega arith) (λ c. omega arith) (λ c. omega arith) (λ c. omega arith) (λ c κs. tt) (λ c. omega arith)
     (λ c. omega arith) (λ c. tt) (λ c. tt))

@@ -26,7 +26,7 @@ loop-again c =
     let l = c .before .before in
     let m = l .before in
     let a = m .before .before .args in
-    let p = up-to-most (a .ty) (getD (a .xs .now) (l .loop .i) 0) (m .before .known .ensures) (m .most .ensures) in
+    let p = up-to-most (a .ty) (getD (a .xs .now) (l .loop .i) 0) (m .most .ensures) (m .before .known .ensures) in
     (omega arith, every-more _ _ _ _ _ (l .loop .inv .1) p)
 
 returns : tie.Need-returns Inv-loop μ-loop
@@ -37,5 +37,5 @@ returns c =
 pub components-ok-spec : {M : Type 1} → statement M
 components-ok-spec =
     tie.close
-    (tie.spec Inv-loop μ-loop (λ c κs. search needs) (λ c κs. search needs) loop-holds
-    (λ c. search needs) (λ c. search needs) (λ c. search needs) (λ c. search needs) loop-again returns)
+    (tie.spec Inv-loop μ-loop (λ c κs. search needs) (λ c κs. search needs) loop-holds (λ c. search needs) (λ c. search needs) (λ c. search needs)
+    (λ c. search needs) loop-again returns)

@@ -10,27 +10,27 @@ use Rattle.operand.proofs.Shapes.{shape-small, count-small}
 use Rattle.operand.proofs.formed.Statement.{statement}
 use Rattle.operand.proofs.formed.Tie as tie
 
-returns : tie.Need-returns
+no-shape : tie.Need-returns
 unfolding operandFormed
-returns c = rw (← (c .before .shape-ok .ensures), not-true (c .before .shape-ok .result) (c .if1 .taken))
+no-shape c = rw (← (c .before .shape-ok .ensures), not-true (c .before .shape-ok .result) (c .if1 .taken))
 
 count-requires : tie.Need-count-requires
-count-requires c κs = shape-small (c .before .before .args .t1 .ty) _ _ (sym (c .before .shape-ok .ensures) ∙ not-false _ (c .if1 .left))
+count-requires c κs = shape-small (c .before .before .args .ty) _ _ (sym (c .before .shape-ok .ensures) ∙ not-false _ (c .if1 .left))
 
 components-ok-requires : tie.Need-components-ok-requires
 components-ok-requires c κs =
-    let d = c .before .before .before in
-    let v = d .before .before .args .t1 in
-    let h : shapeOk (v .ty) (v .cols) (v .rows) ≡ true = sym (d .before .shape-ok .ensures) ∙ not-false _ (d .if1 .left) in
-    let n : c .before .before .count .result ≤ 16 = rw (c .before .before .count .ensures) (count-small _ (shape-small (v .ty) _ _ h)) in
+    let d = c .before in
+    let a = d .before .before .args in
+    let h : shapeOk (a .ty) (a .s .cols) (a .s .rows) ≡ true = sym (d .before .shape-ok .ensures) ∙ not-false _ (d .if1 .left) in
+    let n : c .count .result ≤ 16 = rw (c .count .ensures) (count-small _ (shape-small (a .ty) _ _ h)) in
     omega arith
 
-returns-2 : tie.Need-returns-2
+components : tie.Need-returns-2
 unfolding operandFormed
-returns-2 c =
-    let d = c .before .before .before .before in
-    rw (← (d .before .shape-ok .ensures), not-false (d .before .shape-ok .result) (d .if1 .left), ← (c .before .before .before .count .ensures))
+components c =
+    let d = c .before .before in
+    rw (← (d .before .shape-ok .ensures), not-false (d .before .shape-ok .result) (d .if1 .left), ← (c .before .count .ensures))
     (c .components-ok .ensures)
 
 pub formed-spec : {M : Type 1} → statement M
-formed-spec = tie.close (tie.spec (λ c κs. search needs) returns count-requires components-ok-requires returns-2)
+formed-spec = tie.close (tie.spec (λ c κs. search needs) no-shape count-requires components-ok-requires components)

@@ -28,6 +28,5 @@ returns-5 c =
 pub targets-of-spec : {M : Type 1} → statement M
 targets-of-spec =
     tie.close
-    (tie.spec (λ c κs. search needs) (λ c κs. search needs) returns returns-2
-    (λ c κs. search needs) returns-3
-    (λ c κs. search needs) (λ c. search needs) (λ c. search needs) returns-4 returns-5)
+    (tie.spec (λ c κs. search needs) (λ c κs. search needs) returns returns-2 (λ c κs. search needs) returns-3 (λ c κs. search needs)
+    (λ c. search needs) (λ c. search needs) returns-4 returns-5)

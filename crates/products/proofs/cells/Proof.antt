@@ -51,6 +51,6 @@ last c =
 pub cells-spec : {M : Type 1} → statement M
 cells-spec =
     tie.close
-    (tie.spec Inv-loop μ-loop (λ c. turn-first _ _) (λ c. search needs) (λ c. search needs) mul-dot dot-requires
-    (λ c. search needs) (λ c. search needs) (λ c κs. search needs) refused
-    (λ c. search needs) (λ c. search needs) (λ c. search needs) (λ c. search needs) next (λ c κs. search needs) last)
+    (tie.spec Inv-loop μ-loop (λ c. turn-first _ _) (λ c. search needs) (λ c. search needs) mul-dot dot-requires (λ c. search needs)
+    (λ c. search needs) (λ c κs. search needs) refused (λ c. search needs) (λ c. search needs) (λ c. search needs) (λ c. search needs) next
+    (λ c κs. search needs) last)

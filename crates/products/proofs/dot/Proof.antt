@@ -24,14 +24,14 @@ entry-requires-2 c κs = c .before .pre .1 0 (omega arith)
 returns : tie.Need-returns Inv-loop μ-loop
 returns c =
     let d = c .before .before in
-    let e = dot-first _ _ _ _ _ _ _ (d .before .before .entry .ensures) (d .before .entry2 .ensures) (d .binary-step .ensures) in
+    let e = dot-first _ _ _ _ _ _ _ (d .before .before .entry .ensures) (d .before .entry2 .ensures) (d .product .ensures) in
     sum-stop _ _ 0 _ _ _ (omega arith) (ap stepResult (c .enum-told .given .1)) e
 
 loop-holds : tie.Need-loop-holds Inv-loop μ-loop
 loop-holds c =
     let d = c .before .before .before in
     let q = sym (ap stepResult (c .before .first .given .1)) in
-    (omega arith, omega arith, q ∙ dot-first _ _ _ _ _ _ _ (d .before .before .entry .ensures) (d .before .entry2 .ensures) (d .binary-step .ensures))
+    (omega arith, omega arith, q ∙ dot-first _ _ _ _ _ _ _ (d .before .before .entry .ensures) (d .before .entry2 .ensures) (d .product .ensures))
 
 entry-requires-3 : tie.Need-entry-requires-3 Inv-loop μ-loop
 entry-requires-3 c κs =
@@ -66,6 +66,6 @@ returns-3 c =
 pub dot-spec : {M : Type 1} → statement M
 dot-spec =
     tie.close
-    (tie.spec Inv-loop μ-loop entry-requires entry-requires-2
-    (λ c κs. search needs) (λ c. search needs) (λ c. search needs) returns loop-holds entry-requires-3 entry-requires-4
-    (λ c κs. search needs) (λ c. search needs) (λ c. search needs) returns-2 (λ c. search needs) (λ c. search needs) loop-again returns-3)
+    (tie.spec Inv-loop μ-loop entry-requires entry-requires-2 (λ c κs. search needs) (λ c. search needs) (λ c. search needs) returns loop-holds
+    entry-requires-3 entry-requires-4 (λ c κs. search needs) (λ c. search needs) (λ c. search needs) returns-2 (λ c. search needs) (λ c. search needs)
+    loop-again returns-3)

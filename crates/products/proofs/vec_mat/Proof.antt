@@ -37,5 +37,4 @@ returns c =
 
 pub vec-mat-spec : {M : Type 1} → statement M
 vec-mat-spec =
-    tie.close
-    (tie.spec Inv-loop μ-loop steps-requires loop-holds (λ c κs. search needs) (λ c. search needs) (λ c. search needs) loop-again returns)
+    tie.close (tie.spec Inv-loop μ-loop steps-requires loop-holds (λ c κs. search needs) (λ c. search needs) (λ c. search needs) loop-again returns)

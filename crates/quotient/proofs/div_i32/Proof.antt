@@ -6,9 +6,6 @@ use borrow.Author.Needs.{needs}
 use Rattle.quotient.proofs.div_i32.Statement.{statement}
 use Rattle.quotient.proofs.div_i32.Tie as tie
 
-none-i32-requires : tie.Need-none-i32-requires
-none-i32-requires c κs = search needs
-
 returns : tie.Need-returns
 returns c = rw (tested w32 _ _ (c .before .before .fits .x) (c .before .before .fits .y) (c .before .none-i32 .ensures) (c .if1 .taken))
 
@@ -19,4 +16,4 @@ returns-2 : tie.Need-returns-2
 returns-2 c = quot-is w32 _ _ (c .before .before .fits .x) (c .before .before .fits .y) (c .before .none-i32 .ensures) Undefined Value (c .if1 .left)
 
 pub div-i32-spec : {M : Type 1} → statement M
-div-i32-spec = tie.close (tie.spec none-i32-requires returns div-t4 returns-2)
+div-i32-spec = tie.close (tie.spec (λ c κs. search needs) returns div-t4 returns-2)

@@ -6,9 +6,6 @@ use borrow.Author.Needs.{needs}
 use Rattle.quotient.proofs.rem_i64.Statement.{statement}
 use Rattle.quotient.proofs.rem_i64.Tie as tie
 
-none-i64-requires : tie.Need-none-i64-requires
-none-i64-requires c κs = search needs
-
 returns : tie.Need-returns
 returns c = rw (tested w64 _ _ (c .before .before .fits .x) (c .before .before .fits .y) (c .before .none-i64 .ensures) (c .if1 .taken))
 
@@ -19,4 +16,4 @@ returns-2 : tie.Need-returns-2
 returns-2 c = rem-is w64 _ _ (c .before .before .fits .x) (c .before .before .fits .y) (c .before .none-i64 .ensures) Undefined Value (c .if1 .left)
 
 pub rem-i64-spec : {M : Type 1} → statement M
-rem-i64-spec = tie.close (tie.spec none-i64-requires returns rem-t4 returns-2)
+rem-i64-spec = tie.close (tie.spec (λ c κs. search needs) returns rem-t4 returns-2)

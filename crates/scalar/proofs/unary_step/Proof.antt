@@ -4,18 +4,8 @@ use borrow.Author.Needs.{needs}
 use Rattle.scalar.proofs.unary_step.Statement.{statement}
 use Rattle.scalar.proofs.unary_step.Tie as tie
 
-scalar-of-requires : tie.Need-scalar-of-requires
-scalar-of-requires c κs = search needs
-
-unary-op-requires : tie.Need-unary-op-requires
-unary-op-requires c κs = search needs
-
-step-of-requires : tie.Need-step-of-requires
-step-of-requires c κs = search needs
-
 returns : tie.Need-returns
 returns c = let a = c .before .before .before .args in by-scalar (a .op) (a .ty) (a .v) (c .before .before .scalar-of .ensures) (c .before .unary-op .ensures) (c .step-of .ensures)
 
 pub unary-step-spec : {M : Type 1} → statement M
-unary-step-spec =
-    tie.close (tie.spec scalar-of-requires unary-op-requires step-of-requires returns)
+unary-step-spec = tie.close (tie.spec (λ c κs. search needs) (λ c κs. search needs) (λ c κs. search needs) returns)

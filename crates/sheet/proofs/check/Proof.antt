@@ -33,16 +33,10 @@ slice-aggregate-read-record c = sym (length-take-le _ _ (omega (arith, c .before
 read-record-requires : tie.Need-read-record-requires Inv-loop μ-loop
 read-record-requires c κs = tt
 
-enum-known-k : tie.Need-enum-known-k Inv-loop μ-loop
-enum-known-k c = search needs
-
 returns-3 : tie.Need-returns-3 Inv-loop μ-loop
 returns-3 c =
     let i = c .before .before .before .before .before .before .before .loop .inv in
     going-bad _ _ _ _ i (omega arith) (omega arith) _ (c .before .before .before .read-record .ensures) _ _ (c .before .k .given .1)
-
-enum-known-stage : tie.Need-enum-known-stage Inv-loop μ-loop
-enum-known-stage c = search needs
 
 array-write-stages : tie.Need-array-write-stages Inv-loop μ-loop
 array-write-stages c = omega arith
@@ -64,20 +58,5 @@ returns-4 c = going-end _ _ _ _ (c .before .loop .inv) (c .loop-test .left)
 pub check-spec : {M : Type 1} → statement M
 check-spec =
     tie.close
-    (tie.spec
-    Inv-loop
-    μ-loop
-    returns
-    loop-holds
-    returns-2
-    array-share-prefix-stages
-    slice-aggregate-read-record
-    read-record-requires
-    enum-known-k
-    returns-3
-    enum-known-stage
-    array-write-stages
-    add-n
-    loop-less
-    loop-again
-    returns-4)
+    (tie.spec Inv-loop μ-loop returns loop-holds returns-2 array-share-prefix-stages slice-aggregate-read-record read-record-requires
+    (λ c. search needs) returns-3 (λ c. search needs) array-write-stages add-n loop-less loop-again returns-4)

@@ -13,18 +13,6 @@ use Rattle.shift.proofs.shl_i32.Tie as tie
 returns : tie.Need-returns
 returns c = let a = c .before .args in rw (count-refused w32 (a .n) (inSigned w32 (a .x *ℤ pos (2 ^ a .n))) (c .if1 .taken))
 
-mag-i32-requires : tie.Need-mag-i32-requires
-mag-i32-requires c κs = search needs
-
-shl-if2 : tie.Need-shl-if2
-shl-if2 c = search needs
-
-cast-t7 : tie.Need-cast-t7
-cast-t7 c = search needs
-
-shl-t8 : tie.Need-shl-t8
-shl-t8 c = search needs
-
 returns-2 : tie.Need-returns-2
 returns-2 c =
     let call = c .before .before .before in
@@ -36,5 +24,4 @@ returns-3 c =
     shl-refused w32 (call .args .x) (call .args .n) _ (call .fits .x) (omega arith) (c .before .mag-i32 .ensures) Over Value (c .if2 .left)
 
 pub shl-i32-spec : {M : Type 1} → statement M
-shl-i32-spec =
-    tie.close (tie.spec returns mag-i32-requires shl-if2 cast-t7 shl-t8 returns-2 returns-3)
+shl-i32-spec = tie.close (tie.spec returns (λ c κs. search needs) (λ c. search needs) (λ c. search needs) (λ c. search needs) returns-2 returns-3)

@@ -17,21 +17,6 @@ returns c = rw (is-zero w64 (c .before .args .x) (c .before .fits .x) (c .if1 .t
 returns-2 : tie.Need-returns-2
 returns-2 c = let a = c .before .before .args in whole-out (a .x *ℤ pos (2 ^ a .n)) (shl-past w64 (a .x) (a .n) (c .before .if1 .left) (c .if2 .taken))
 
-mag-i64-requires : tie.Need-mag-i64-requires
-mag-i64-requires c κs = search needs
-
-cast-if3 : tie.Need-cast-if3
-cast-if3 c = search needs
-
-shl-if3 : tie.Need-shl-if3
-shl-if3 c = search needs
-
-cast-t8 : tie.Need-cast-t8
-cast-t8 c = search needs
-
-shl-t9 : tie.Need-shl-t9
-shl-t9 c = search needs
-
 returns-3 : tie.Need-returns-3
 returns-3 c =
     let call = c .before .before .before .before in
@@ -45,13 +30,5 @@ returns-4 c =
 pub shl-i64-spec : {M : Type 1} → statement M
 shl-i64-spec =
     tie.close
-    (tie.spec
-    returns
-    returns-2
-    mag-i64-requires
-    cast-if3
-    shl-if3
-    cast-t8
-    shl-t9
-    returns-3
+    (tie.spec returns returns-2 (λ c κs. search needs) (λ c. search needs) (λ c. search needs) (λ c. search needs) (λ c. search needs) returns-3
     returns-4)

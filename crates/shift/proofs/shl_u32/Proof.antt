@@ -17,16 +17,10 @@ use Rattle.shift.proofs.shl_u32.Tie as tie
 returns : tie.Need-returns
 returns c = let a = c .before .args in rw (count-refused w32 (a .n) (inUnsigned w32 (a .x * 2 ^ a .n)) (c .if1 .taken))
 
-shr-if2 : tie.Need-shr-if2
-shr-if2 c = search needs
-
 returns-2 : tie.Need-returns-2
 returns-2 c =
     let a = c .before .before .args in
     rw (product-refused w32 (a .n) (le-ltb (a .x * 2 ^ a .n) (2 ^ 32) (product-past w32 (a .x) (2 ^ a .n) (pow-pos (a .n)) (c .if2 .taken))))
-
-shl-t4 : tie.Need-shl-t4
-shl-t4 c = search needs
 
 returns-3 : tie.Need-returns-3
 returns-3 c =
@@ -35,4 +29,4 @@ returns-3 c =
     rw (shift-taken w32 (a .n) (omega arith) (lt-ltb (a .x * 2 ^ a .n) (2 ^ 32) f)) (ap Value (mod-eq-of-lt f))
 
 pub shl-u32-spec : {M : Type 1} → statement M
-shl-u32-spec = tie.close (tie.spec returns shr-if2 returns-2 shl-t4 returns-3)
+shl-u32-spec = tie.close (tie.spec returns (λ c. search needs) returns-2 (λ c. search needs) returns-3)

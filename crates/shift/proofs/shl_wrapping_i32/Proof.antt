@@ -5,14 +5,8 @@ use borrow.Author.Needs.{needs}
 use Rattle.shift.proofs.shl_wrapping_i32.Statement.{statement}
 use Rattle.shift.proofs.shl_wrapping_i32.Tie as tie
 
-cast-result : tie.Need-cast-result
-cast-result c = search needs
-
-shl-result : tie.Need-shl-result
-shl-result c = search needs
-
 returns : tie.Need-returns
 returns c = wrap-shl w32 _ _ (c .fits .x)
 
 pub shl-wrapping-i32-spec : {M : Type 1} → statement M
-shl-wrapping-i32-spec = tie.close (tie.spec cast-result shl-result returns)
+shl-wrapping-i32-spec = tie.close (tie.spec (λ c. search needs) (λ c. search needs) returns)

@@ -5,12 +5,6 @@ use borrow.Author.Needs.{needs}
 use Rattle.shift.proofs.shl_wrapping_i64.Statement.{statement}
 use Rattle.shift.proofs.shl_wrapping_i64.Tie as tie
 
-cast-result : tie.Need-cast-result
-cast-result c = search needs
-
-shl-result : tie.Need-shl-result
-shl-result c = search needs
-
 returns : tie.Need-returns
 returns c = wrap-shl w64 _ _ (c .before .fits .x)
 
@@ -18,4 +12,4 @@ returns-2 : tie.Need-returns-2
 returns-2 c = shl-far w64 _ _ (c .before .fits .x) (c .if1 .left)
 
 pub shl-wrapping-i64-spec : {M : Type 1} → statement M
-shl-wrapping-i64-spec = tie.close (tie.spec cast-result shl-result returns returns-2)
+shl-wrapping-i64-spec = tie.close (tie.spec (λ c. search needs) (λ c. search needs) returns returns-2)

@@ -5,11 +5,8 @@ use borrow.Author.Needs.{needs}
 use Rattle.shift.proofs.shl_wrapping_u32.Statement.{statement}
 use Rattle.shift.proofs.shl_wrapping_u32.Tie as tie
 
-shl-result : tie.Need-shl-result
-shl-result c = search needs
-
 returns : tie.Need-returns
 returns c = wrapU-pos w32 _
 
 pub shl-wrapping-u32-spec : {M : Type 1} → statement M
-shl-wrapping-u32-spec = tie.close (tie.spec shl-result returns)
+shl-wrapping-u32-spec = tie.close (tie.spec (λ c. search needs) returns)

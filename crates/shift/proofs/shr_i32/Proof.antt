@@ -5,14 +5,8 @@ use borrow.Author.Needs.{needs}
 use Rattle.shift.proofs.shr_i32.Statement.{statement}
 use Rattle.shift.proofs.shr_i32.Tie as tie
 
-cast-result : tie.Need-cast-result
-cast-result c = search needs
-
-shr-result : tie.Need-shr-result
-shr-result c = search needs
-
 returns : tie.Need-returns
 returns c = shr-is w32 _ _ (c .fits .x)
 
 pub shr-i32-spec : {M : Type 1} → statement M
-shr-i32-spec = tie.close (tie.spec cast-result shr-result returns)
+shr-i32-spec = tie.close (tie.spec (λ c. search needs) (λ c. search needs) returns)

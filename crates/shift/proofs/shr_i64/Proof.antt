@@ -5,12 +5,6 @@ use borrow.Author.Needs.{needs}
 use Rattle.shift.proofs.shr_i64.Statement.{statement}
 use Rattle.shift.proofs.shr_i64.Tie as tie
 
-cast-result : tie.Need-cast-result
-cast-result c = search needs
-
-shr-result : tie.Need-shr-result
-shr-result c = search needs
-
 returns : tie.Need-returns
 returns c = shr-is w64 _ _ (c .before .fits .x)
 
@@ -21,4 +15,4 @@ returns-3 : tie.Need-returns-3
 returns-3 c = shr-pos w64 _ _ (c .before .before .fits .x) (c .before .if1 .left) (c .if2 .left)
 
 pub shr-i64-spec : {M : Type 1} → statement M
-shr-i64-spec = tie.close (tie.spec cast-result shr-result returns returns-2 returns-3)
+shr-i64-spec = tie.close (tie.spec (λ c. search needs) (λ c. search needs) returns returns-2 returns-3)

@@ -8,27 +8,6 @@ use Rattle.slot.proofs.put.Tie as tie
 returns : tie.Need-returns
 returns c = sym (put-out _ _ _ (c .if1 .taken))
 
-mul-a : tie.Need-mul-a
-mul-a c = search needs
-
-add-e : tie.Need-add-e
-add-e c = search needs
-
-sub-say : tie.Need-sub-say
-sub-say c = search needs
-
-part-say-start : tie.Need-part-say-start
-part-say-start c = search needs
-
-part-say-end : tie.Need-part-say-end
-part-say-end c = search needs
-
-say-requires : tie.Need-say-requires
-say-requires c κs = search needs
-
-same-length : tie.Need-same-length
-same-length c = search needs
-
 returns-2 : tie.Need-returns-2
 returns-2 c =
     let s = c .before .before .before .before .before .before in
@@ -37,13 +16,5 @@ returns-2 c =
 pub put-spec : {M : Type 1} → statement M
 put-spec =
     tie.close
-    (tie.spec
-    returns
-    mul-a
-    add-e
-    sub-say
-    part-say-start
-    part-say-end
-    say-requires
-    same-length
-    returns-2)
+    (tie.spec returns (λ c. search needs) (λ c. search needs) (λ c. search needs) (λ c. search needs) (λ c. search needs) (λ c κs. search needs)
+    (λ c. search needs) returns-2)

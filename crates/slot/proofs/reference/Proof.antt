@@ -4,21 +4,11 @@ use borrow.Author.Needs.{needs}
 use Rattle.slot.proofs.reference.Statement.{statement}
 use Rattle.slot.proofs.reference.Tie as tie
 
-read-requires : tie.Need-read-requires
-read-requires c κs = search needs
-
-formed-requires : tie.Need-formed-requires
-formed-requires c κs = search needs
-
 returns : tie.Need-returns
 returns c = reference-value _ _ _ _ (c .before .before .before .read .ensures) (c .before .formed .ensures) (c .if1 .taken)
-
-refused-requires : tie.Need-refused-requires
-refused-requires c κs = search needs
 
 returns-2 : tie.Need-returns-2
 returns-2 c = reference-refused _ _ _ _ (c .before .before .before .before .read .ensures) (c .before .before .formed .ensures) _ (c .before .if1 .left) (c .refused .ensures)
 
 pub reference-spec : {M : Type 1} → statement M
-reference-spec =
-    tie.close (tie.spec read-requires formed-requires returns refused-requires returns-2)
+reference-spec = tie.close (tie.spec (λ c κs. search needs) (λ c κs. search needs) returns (λ c κs. search needs) returns-2)

@@ -6,21 +6,6 @@ use borrow.Author.Needs.{needs}
 use Rattle.slot.proofs.say.Statement.{statement}
 use Rattle.slot.proofs.say.Tie as tie
 
-slice-write-b : tie.Need-slice-write-b
-slice-write-b c = search needs
-
-slice-write-b-2 : tie.Need-slice-write-b-2
-slice-write-b-2 c = search needs
-
-slice-write-b-3 : tie.Need-slice-write-b-3
-slice-write-b-3 c = search needs
-
-slice-write-b-4 : tie.Need-slice-write-b-4
-slice-write-b-4 c = search needs
-
-cast-put32 : tie.Need-cast-put32
-cast-put32 c = search needs
-
 put32-requires : tie.Need-put32-requires
 put32-requires c κs = simp length-set (omega arith)
 
@@ -38,13 +23,5 @@ returns c =
 pub say-spec : {M : Type 1} → statement M
 say-spec =
     tie.close
-    (tie.spec
-    slice-write-b
-    slice-write-b-2
-    slice-write-b-3
-    slice-write-b-4
-    cast-put32
-    put32-requires
-    put-words-requires
-    same-length
-    returns)
+    (tie.spec (λ c. search needs) (λ c. search needs) (λ c. search needs) (λ c. search needs) (λ c. search needs) put32-requires put-words-requires
+    same-length returns)

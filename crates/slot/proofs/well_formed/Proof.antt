@@ -4,14 +4,8 @@ use borrow.Author.Needs.{needs}
 use Rattle.slot.proofs.well_formed.Statement.{statement}
 use Rattle.slot.proofs.well_formed.Tie as tie
 
-read-requires : tie.Need-read-requires
-read-requires c κs = search needs
-
-formed-requires : tie.Need-formed-requires
-formed-requires c κs = search needs
-
 returns : tie.Need-returns
 returns c = slot-formed _ _ _ _ (c .before .read .ensures) (c .formed .ensures)
 
 pub well-formed-spec : {M : Type 1} → statement M
-well-formed-spec = tie.close (tie.spec read-requires formed-requires returns)
+well-formed-spec = tie.close (tie.spec (λ c κs. search needs) (λ c κs. search needs) returns)

@@ -4,14 +4,8 @@ use borrow.Author.Needs.{needs}
 use Rattle.types.proofs.common.Statement.{statement}
 use Rattle.types.proofs.common.Tie as tie
 
-goes-to-requires : tie.Need-goes-to-requires
-goes-to-requires c κs = search needs
-
 returns : tie.Need-returns
 returns c = let a = c .before .before .args in to-left (a .a) (a .b) (c .before .goes-to .ensures) (c .if1 .taken)
-
-goes-to-requires-2 : tie.Need-goes-to-requires-2
-goes-to-requires-2 c κs = search needs
 
 returns-2 : tie.Need-returns-2
 returns-2 c =
@@ -24,4 +18,4 @@ returns-3 c =
     to-none (a .a) (a .b) (c .before .before .before .goes-to .ensures) (c .before .before .if1 .left) (c .before .goes-to2 .ensures) (c .if2 .left)
 
 pub common-spec : {M : Type 1} → statement M
-common-spec = tie.close (tie.spec goes-to-requires returns goes-to-requires-2 returns-2 returns-3)
+common-spec = tie.close (tie.spec (λ c κs. search needs) returns (λ c κs. search needs) returns-2 returns-3)

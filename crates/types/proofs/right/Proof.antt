@@ -3,11 +3,8 @@ use borrow.Author.Needs.{needs}
 use Rattle.types.proofs.right.Statement.{statement}
 use Rattle.types.proofs.right.Tie as tie
 
-class-requires : tie.Need-class-requires
-class-requires c κs = search needs
-
 returns : tie.Need-returns
 returns c = rw (c .class .ensures)
 
 pub right-spec : {M : Type 1} → statement M
-right-spec = tie.close (tie.spec class-requires returns)
+right-spec = tie.close (tie.spec (λ c κs. search needs) returns)

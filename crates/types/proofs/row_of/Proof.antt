@@ -7,30 +7,6 @@ use borrow.Author.Needs.{needs}
 use Rattle.types.proofs.row_of.Statement.{statement}
 use Rattle.types.proofs.row_of.Tie as tie
 
-row-with-requires : tie.Need-row-with-requires
-row-with-requires c κs = search needs
-
-row-with-requires-2 : tie.Need-row-with-requires-2
-row-with-requires-2 c κs = search needs
-
-row-with-requires-3 : tie.Need-row-with-requires-3
-row-with-requires-3 c κs = search needs
-
-row-with-requires-4 : tie.Need-row-with-requires-4
-row-with-requires-4 c κs = search needs
-
-row-with-requires-5 : tie.Need-row-with-requires-5
-row-with-requires-5 c κs = search needs
-
-row-with-requires-6 : tie.Need-row-with-requires-6
-row-with-requires-6 c κs = search needs
-
-row-with-requires-7 : tie.Need-row-with-requires-7
-row-with-requires-7 c κs = search needs
-
-row-with-requires-8 : tie.Need-row-with-requires-8
-row-with-requires-8 c κs = search needs
-
 returns : tie.Need-returns
 returns c = rw (c .before .match .keys1) (c .row-with .ensures)
 
@@ -58,20 +34,5 @@ returns-8 c = c .row-with8 .ensures ∙ past-all rows (row none 0 false) (c .bef
 pub row-of-spec : {M : Type 1} → statement M
 row-of-spec =
     tie.close
-    (tie.spec
-    row-with-requires
-    row-with-requires-2
-    row-with-requires-3
-    row-with-requires-4
-    row-with-requires-5
-    row-with-requires-6
-    row-with-requires-7
-    row-with-requires-8
-    returns
-    returns-2
-    returns-3
-    returns-4
-    returns-5
-    returns-6
-    returns-7
-    returns-8)
+    (tie.spec (λ c κs. search needs) (λ c κs. search needs) (λ c κs. search needs) (λ c κs. search needs) (λ c κs. search needs)
+    (λ c κs. search needs) (λ c κs. search needs) (λ c κs. search needs) returns returns-2 returns-3 returns-4 returns-5 returns-6 returns-7 returns-8)

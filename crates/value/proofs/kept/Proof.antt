@@ -35,5 +35,4 @@ unfolding keptOf
 returns-7 c = plain-kept _ _ (c .match .rest)
 
 pub kept-spec : {M : Type 1} → statement M
-kept-spec =
-    tie.close (tie.spec returns returns-2 returns-3 returns-4 returns-5 returns-6 returns-7)
+kept-spec = tie.close (tie.spec returns returns-2 returns-3 returns-4 returns-5 returns-6 returns-7)

@@ -6,14 +6,8 @@ use borrow.Author.Needs.{needs}
 use Rattle.value.proofs.stage_of.Statement.{statement}
 use Rattle.value.proofs.stage_of.Tie as tie
 
-returns : tie.Need-returns
-returns c = search needs
-
-returns-2 : tie.Need-returns-2
-returns-2 c = search needs
-
 returns-3 : tie.Need-returns-3
 returns-3 c = past-all (Const ∷ Override ∷ []) Exec (c .before .args .code) (c .match .rest)
 
 pub stage-of-spec : {M : Type 1} → statement M
-stage-of-spec = tie.close (tie.spec returns returns-2 returns-3)
+stage-of-spec = tie.close (tie.spec (λ c. search needs) (λ c. search needs) returns-3)

@@ -12,30 +12,6 @@ use borrow.Author.Needs.{needs}
 use Rattle.bitwise.proofs.bits.bits_pair.Statement.{statement}
 use Rattle.bitwise.proofs.bits.bits_pair.Tie as tie
 
-enum-known-p : tie.Need-enum-known-p
-enum-known-p c = search needs
-
-join-truths-requires : tie.Need-join-truths-requires
-join-truths-requires c κs = search needs
-
-enum-known-p-2 : tie.Need-enum-known-p-2
-enum-known-p-2 c = search needs
-
-join-i64-requires : tie.Need-join-i64-requires
-join-i64-requires c κs = search needs
-
-enum-known-p-3 : tie.Need-enum-known-p-3
-enum-known-p-3 c = search needs
-
-join-i32-requires : tie.Need-join-i32-requires
-join-i32-requires c κs = search needs
-
-enum-known-p-4 : tie.Need-enum-known-p-4
-enum-known-p-4 c = search needs
-
-join-u32-requires : tie.Need-join-u32-requires
-join-u32-requires c κs = search needs
-
 returns : tie.Need-returns
 returns c = rw (c .before .before .p .given .1) (c .join-truths .ensures)
 
@@ -64,17 +40,5 @@ returns-5 c = let a = c .before .args in no-bits (truthsBy (a .op)) (bitsBy (a .
 pub bits-pair-spec : {M : Type 1} → statement M
 bits-pair-spec =
     tie.close
-    (tie.spec
-    enum-known-p
-    join-truths-requires
-    enum-known-p-2
-    join-i64-requires
-    enum-known-p-3
-    join-i32-requires
-    enum-known-p-4
-    join-u32-requires
-    returns
-    returns-2
-    returns-3
-    returns-4
-    returns-5)
+    (tie.spec (λ c. search needs) (λ c κs. search needs) (λ c. search needs) (λ c κs. search needs) (λ c. search needs) (λ c κs. search needs)
+    (λ c. search needs) (λ c κs. search needs) returns returns-2 returns-3 returns-4 returns-5)

@@ -13,24 +13,6 @@ use borrow.Author.Needs.{needs}
 use Rattle.bitwise.proofs.bits.op_bitnot.Statement.{statement}
 use Rattle.bitwise.proofs.bits.op_bitnot.Tie as tie
 
-enum-known-s : tie.Need-enum-known-s
-enum-known-s c = search needs
-
-not-i64-requires : tie.Need-not-i64-requires
-not-i64-requires c κs = search needs
-
-enum-known-s-2 : tie.Need-enum-known-s-2
-enum-known-s-2 c = search needs
-
-not-i32-requires : tie.Need-not-i32-requires
-not-i32-requires c κs = search needs
-
-enum-known-s-3 : tie.Need-enum-known-s-3
-enum-known-s-3 c = search needs
-
-not-u32-requires : tie.Need-not-u32-requires
-not-u32-requires c κs = search needs
-
 returns : tie.Need-returns
 returns c =
     let p = c .before .before .s .given in
@@ -55,14 +37,5 @@ returns-4 c =
 pub op-bitnot-spec : {M : Type 1} → statement M
 op-bitnot-spec =
     tie.close
-    (tie.spec
-    enum-known-s
-    not-i64-requires
-    enum-known-s-2
-    not-i32-requires
-    enum-known-s-3
-    not-u32-requires
-    returns
-    returns-2
-    returns-3
-    returns-4)
+    (tie.spec (λ c. search needs) (λ c κs. search needs) (λ c. search needs) (λ c κs. search needs) (λ c. search needs) (λ c κs. search needs) returns
+    returns-2 returns-3 returns-4)

@@ -6,14 +6,8 @@ use borrow.Author.Needs.{needs}
 use Rattle.bitwise.proofs.shifts.op_shl.Statement.{statement}
 use Rattle.bitwise.proofs.shifts.op_shl.Tie as tie
 
-convert-requires : tie.Need-convert-requires
-convert-requires c κs = search needs
-
-shift-requires : tie.Need-shift-requires
-shift-requires c κs = search needs
-
 returns : tie.Need-returns
 returns c = c .shift .ensures ∙ ap (λ (f : Found). shlOf (c .before .before .args .stage) (c .before .before .args .l) f) (c .before .convert .ensures)
 
 pub op-shl-spec : {M : Type 1} → statement M
-op-shl-spec = tie.close (tie.spec convert-requires shift-requires returns)
+op-shl-spec = tie.close (tie.spec (λ c κs. search needs) (λ c κs. search needs) returns)

@@ -10,33 +10,6 @@ use borrow.Author.Needs.{needs}
 use Rattle.bitwise.proofs.shifts.shl_exact.Statement.{statement}
 use Rattle.bitwise.proofs.shifts.shl_exact.Tie as tie
 
-enum-known-l : tie.Need-enum-known-l
-enum-known-l c = search needs
-
-shl-i64-requires : tie.Need-shl-i64-requires
-shl-i64-requires c κs = search needs
-
-whole-shl-requires : tie.Need-whole-shl-requires
-whole-shl-requires c κs = search needs
-
-enum-known-l-2 : tie.Need-enum-known-l-2
-enum-known-l-2 c = search needs
-
-shl-i32-requires : tie.Need-shl-i32-requires
-shl-i32-requires c κs = search needs
-
-signed-shl-requires : tie.Need-signed-shl-requires
-signed-shl-requires c κs = search needs
-
-enum-known-l-3 : tie.Need-enum-known-l-3
-enum-known-l-3 c = search needs
-
-shl-u32-requires : tie.Need-shl-u32-requires
-shl-u32-requires c κs = search needs
-
-unsigned-shl-requires : tie.Need-unsigned-shl-requires
-unsigned-shl-requires c κs = search needs
-
 returns : tie.Need-returns
 returns c =
     let p = c .before .before .before .l .given in
@@ -60,17 +33,5 @@ returns-4 c = let a = c .before .args in no-integer binary (exactWhole (a .n)) (
 pub shl-exact-spec : {M : Type 1} → statement M
 shl-exact-spec =
     tie.close
-    (tie.spec
-    enum-known-l
-    shl-i64-requires
-    whole-shl-requires
-    enum-known-l-2
-    shl-i32-requires
-    signed-shl-requires
-    enum-known-l-3
-    shl-u32-requires
-    unsigned-shl-requires
-    returns
-    returns-2
-    returns-3
-    returns-4)
+    (tie.spec (λ c. search needs) (λ c κs. search needs) (λ c κs. search needs) (λ c. search needs) (λ c κs. search needs) (λ c κs. search needs)
+    (λ c. search needs) (λ c κs. search needs) (λ c κs. search needs) returns returns-2 returns-3 returns-4)

@@ -14,24 +14,6 @@ use borrow.Author.Needs.{needs}
 use Rattle.bitwise.proofs.shifts.shl_wrapped.Statement.{statement}
 use Rattle.bitwise.proofs.shifts.shl_wrapped.Tie as tie
 
-enum-known-l : tie.Need-enum-known-l
-enum-known-l c = search needs
-
-shl-wrapping-i64-requires : tie.Need-shl-wrapping-i64-requires
-shl-wrapping-i64-requires c κs = search needs
-
-enum-known-l-2 : tie.Need-enum-known-l-2
-enum-known-l-2 c = search needs
-
-shl-wrapping-i32-requires : tie.Need-shl-wrapping-i32-requires
-shl-wrapping-i32-requires c κs = search needs
-
-enum-known-l-3 : tie.Need-enum-known-l-3
-enum-known-l-3 c = search needs
-
-shl-wrapping-u32-requires : tie.Need-shl-wrapping-u32-requires
-shl-wrapping-u32-requires c κs = search needs
-
 returns : tie.Need-returns
 returns c =
     let p = c .before .before .l .given in
@@ -58,14 +40,5 @@ returns-4 c =
 pub shl-wrapped-spec : {M : Type 1} → statement M
 shl-wrapped-spec =
     tie.close
-    (tie.spec
-    enum-known-l
-    shl-wrapping-i64-requires
-    enum-known-l-2
-    shl-wrapping-i32-requires
-    enum-known-l-3
-    shl-wrapping-u32-requires
-    returns
-    returns-2
-    returns-3
-    returns-4)
+    (tie.spec (λ c. search needs) (λ c κs. search needs) (λ c. search needs) (λ c κs. search needs) (λ c. search needs) (λ c κs. search needs) returns
+    returns-2 returns-3 returns-4)

@@ -15,35 +15,17 @@ use borrow.Author.Needs.{needs}
 use Rattle.bitwise.proofs.shifts.shr_floor.Statement.{statement}
 use Rattle.bitwise.proofs.shifts.shr_floor.Tie as tie
 
-enum-known-l : tie.Need-enum-known-l
-enum-known-l c = search needs
-
-shr-i64-requires : tie.Need-shr-i64-requires
-shr-i64-requires c κs = search needs
-
-enum-known-l-2 : tie.Need-enum-known-l-2
-enum-known-l-2 c = search needs
-
 returns : tie.Need-returns
 returns c =
     let a = c .before .before .before .before .args in
     let p = c .before .before .l2 .given in
     rw (p .1) (limited-floor w32 (floorSigned I32) (a .n) (p .0 .0) (a .strict) (picked _ _ (c .if1 .taken)))
 
-shr-i32-requires : tie.Need-shr-i32-requires
-shr-i32-requires c κs = search needs
-
-enum-known-l-3 : tie.Need-enum-known-l-3
-enum-known-l-3 c = search needs
-
 returns-2 : tie.Need-returns-2
 returns-2 c =
     let a = c .before .before .before .before .args in
     let p = c .before .before .l3 .given in
     rw (p .1) (limited-floor w32 (floorUnsigned U32) (a .n) (p .0 .0) (a .strict) (picked _ _ (c .if2 .taken)))
-
-shr-u32-requires : tie.Need-shr-u32-requires
-shr-u32-requires c κs = search needs
 
 returns-3 : tie.Need-returns-3
 returns-3 c =
@@ -75,16 +57,5 @@ returns-6 c = no-floor (c .before .args .strict) (c .before .args .l) (c .before
 pub shr-floor-spec : {M : Type 1} → statement M
 shr-floor-spec =
     tie.close
-    (tie.spec
-    enum-known-l
-    shr-i64-requires
-    enum-known-l-2
-    returns
-    shr-i32-requires
-    enum-known-l-3
-    returns-2
-    shr-u32-requires
-    returns-3
-    returns-4
-    returns-5
-    returns-6)
+    (tie.spec (λ c. search needs) (λ c κs. search needs) (λ c. search needs) returns (λ c κs. search needs) (λ c. search needs) returns-2
+    (λ c κs. search needs) returns-3 returns-4 returns-5 returns-6)

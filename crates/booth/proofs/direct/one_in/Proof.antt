@@ -7,29 +7,8 @@ use Rattle.booth.proofs.direct.one_in.Tie as tie
 returns : tie.Need-returns
 returns c = other-length _ (c .if1 .taken)
 
-shared-slice-read-known : tie.Need-shared-slice-read-known
-shared-slice-read-known c = search needs
-
-known-requires : tie.Need-known-requires
-known-requires c κs = search needs
-
-shared-slice-read-if2 : tie.Need-shared-slice-read-if2
-shared-slice-read-if2 c = search needs
-
-shared-slice-read-if2-2 : tie.Need-shared-slice-read-if2-2
-shared-slice-read-if2-2 c = search needs
-
 returns-2 : tie.Need-returns-2
 returns-2 c = let k = c .before .before .before in other-head _ (k .before .before .if1 .left) _ (k .known .ensures) (c .if2 .taken)
-
-shared-slice-read-t5 : tie.Need-shared-slice-read-t5
-shared-slice-read-t5 c = search needs
-
-part-requires : tie.Need-part-requires
-part-requires c κs = search needs
-
-number-requires : tie.Need-number-requires
-number-requires c κs = search needs
 
 returns-3 : tie.Need-returns-3
 returns-3 c =
@@ -39,14 +18,5 @@ returns-3 c =
 pub one-in-spec : {M : Type 1} → statement M
 one-in-spec =
     tie.close
-    (tie.spec
-    returns
-    shared-slice-read-known
-    known-requires
-    shared-slice-read-if2
-    shared-slice-read-if2-2
-    returns-2
-    shared-slice-read-t5
-    part-requires
-    number-requires
-    returns-3)
+    (tie.spec returns (λ c. search needs) (λ c κs. search needs) (λ c. search needs) (λ c. search needs) returns-2 (λ c. search needs)
+    (λ c κs. search needs) (λ c κs. search needs) returns-3)

@@ -4,26 +4,11 @@ use borrow.Author.Needs.{needs}
 use Rattle.booth.proofs.direct.settle.Statement.{statement}
 use Rattle.booth.proofs.direct.settle.Tie as tie
 
-pack-requires : tie.Need-pack-requires
-pack-requires c κs = search needs
-
 returns : tie.Need-returns
 returns c = settled-wrong-size _ _ _ (c .before .if1 .taken) (c .pack .ensures)
 
-cast-pack : tie.Need-cast-pack
-cast-pack c = search needs
-
-pack-requires-2 : tie.Need-pack-requires-2
-pack-requires-2 c κs = search needs
-
 returns-2 : tie.Need-returns-2
 returns-2 c = settled-refused _ _ _ (c .before .before .before .before .if1 .left) (c .before .before .pack2 .ensures) (c .if2 .taken)
-
-put-requires : tie.Need-put-requires
-put-requires c κs = search needs
-
-same-length : tie.Need-same-length
-same-length c = search needs
 
 returns-3 : tie.Need-returns-3
 returns-3 c =
@@ -33,12 +18,4 @@ returns-3 c =
 pub settle-spec : {M : Type 1} → statement M
 settle-spec =
     tie.close
-    (tie.spec
-    pack-requires
-    returns
-    cast-pack
-    pack-requires-2
-    returns-2
-    put-requires
-    same-length
-    returns-3)
+    (tie.spec (λ c κs. search needs) returns (λ c. search needs) (λ c κs. search needs) returns-2 (λ c κs. search needs) (λ c. search needs) returns-3)

@@ -15,6 +15,5 @@ abbrev μ-loop : tie.MeasureT-loop
 pub change-all-spec : {M : Type 1} → statement M
 change-all-spec =
     tie.close
-    (tie.spec
-    Inv-loop μ-loop (λ c. omega arith) (λ c. omega arith) (λ c. omega arith) (λ c κs. omega arith) (λ c. omega arith) (λ c. omega arith)
+    (tie.spec Inv-loop μ-loop (λ c. omega arith) (λ c. omega arith) (λ c. omega arith) (λ c κs. omega arith) (λ c. omega arith) (λ c. omega arith)
     (λ c. omega arith) (λ c. omega arith) (λ c. tt))

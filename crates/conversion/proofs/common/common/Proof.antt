@@ -4,35 +4,11 @@ use borrow.Author.Needs.{needs}
 use Rattle.conversion.proofs.common.common.Statement.{statement}
 use Rattle.conversion.proofs.common.common.Tie as tie
 
-type-of-requires : tie.Need-type-of-requires
-type-of-requires c κs = search needs
-
-type-of-requires-2 : tie.Need-type-of-requires-2
-type-of-requires-2 c κs = search needs
-
-common-requires : tie.Need-common-requires
-common-requires c κs = search needs
-
-enum-known-ty : tie.Need-enum-known-ty
-enum-known-ty c = search needs
-
-enum-told : tie.Need-enum-told
-enum-told c = search needs
-
 returns : tie.Need-returns
 returns c =
     let e = c .before .before in
     let a = e .before .before .before .args in
     no-type (a .l) (a .r) (e .before .before .type-of .ensures) (e .before .type-of2 .ensures) (e .common .ensures) (c .enum-told .given .1)
-
-convert-requires : tie.Need-convert-requires
-convert-requires c κs = search needs
-
-enum-known-x : tie.Need-enum-known-x
-enum-known-x c = search needs
-
-enum-told-2 : tie.Need-enum-told-2
-enum-told-2 c = search needs
 
 returns-2 : tie.Need-returns-2
 returns-2 c =
@@ -40,15 +16,6 @@ returns-2 c =
     let a = e .before .before .before .args in
     no-left (a .l) (a .r) (e .before .before .type-of .ensures) (e .before .type-of2 .ensures) (e .common .ensures)
     (c .before .before .before .before .ty .given .1) (c .before .before .convert .ensures) (c .enum-told2 .given .1)
-
-convert-requires-2 : tie.Need-convert-requires-2
-convert-requires-2 c κs = search needs
-
-enum-known-y : tie.Need-enum-known-y
-enum-known-y c = search needs
-
-enum-told-3 : tie.Need-enum-told-3
-enum-told-3 c = search needs
 
 returns-3 : tie.Need-returns-3
 returns-3 c =
@@ -58,9 +25,6 @@ returns-3 c =
     no-right (a .l) (a .r) (e .before .before .type-of .ensures) (e .before .type-of2 .ensures) (e .common .ensures)
     (k .before .before .before .before .ty .given .1) (k .before .before .convert .ensures) (k .x .given .1)
     (c .before .before .convert2 .ensures) (c .enum-told3 .given .1)
-
-pair-requires : tie.Need-pair-requires
-pair-requires c κs = search needs
 
 returns-4 : tie.Need-returns-4
 returns-4 c =
@@ -74,20 +38,6 @@ returns-4 c =
 pub common-spec : {M : Type 1} → statement M
 common-spec =
     tie.close
-    (tie.spec
-    type-of-requires
-    type-of-requires-2
-    common-requires
-    enum-known-ty
-    enum-told
-    returns
-    convert-requires
-    enum-known-x
-    enum-told-2
-    returns-2
-    convert-requires-2
-    enum-known-y
-    enum-told-3
-    returns-3
-    pair-requires
-    returns-4)
+    (tie.spec (λ c κs. search needs) (λ c κs. search needs) (λ c κs. search needs) (λ c. search needs) (λ c. search needs) returns
+    (λ c κs. search needs) (λ c. search needs) (λ c. search needs) returns-2 (λ c κs. search needs) (λ c. search needs) (λ c. search needs) returns-3
+    (λ c κs. search needs) returns-4)

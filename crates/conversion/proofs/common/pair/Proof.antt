@@ -8,48 +8,6 @@ use borrow.Author.Needs.{needs}
 use Rattle.conversion.proofs.common.pair.Statement.{statement}
 use Rattle.conversion.proofs.common.pair.Tie as tie
 
-enum-known-l : tie.Need-enum-known-l
-enum-known-l c = search needs
-
-enum-known-r : tie.Need-enum-known-r
-enum-known-r c = search needs
-
-enum-known-l-2 : tie.Need-enum-known-l-2
-enum-known-l-2 c = search needs
-
-enum-known-r-2 : tie.Need-enum-known-r-2
-enum-known-r-2 c = search needs
-
-enum-known-l-3 : tie.Need-enum-known-l-3
-enum-known-l-3 c = search needs
-
-enum-known-r-3 : tie.Need-enum-known-r-3
-enum-known-r-3 c = search needs
-
-enum-known-l-4 : tie.Need-enum-known-l-4
-enum-known-l-4 c = search needs
-
-enum-known-r-4 : tie.Need-enum-known-r-4
-enum-known-r-4 c = search needs
-
-enum-known-l-5 : tie.Need-enum-known-l-5
-enum-known-l-5 c = search needs
-
-enum-known-r-5 : tie.Need-enum-known-r-5
-enum-known-r-5 c = search needs
-
-enum-known-l-6 : tie.Need-enum-known-l-6
-enum-known-l-6 c = search needs
-
-enum-known-r-6 : tie.Need-enum-known-r-6
-enum-known-r-6 c = search needs
-
-enum-known-l-7 : tie.Need-enum-known-l-7
-enum-known-l-7 c = search needs
-
-enum-known-r-7 : tie.Need-enum-known-r-7
-enum-known-r-7 c = search needs
-
 returns : tie.Need-returns
 returns c = rw (c .before .r .given .1, c .before .before .before .before .l .given .1)
 
@@ -105,32 +63,7 @@ returns-14 c = unlike-of (c .before .before .before .before .args .r) (c .before
 pub pair-spec : {M : Type 1} → statement M
 pair-spec =
     tie.close
-    (tie.spec
-    enum-known-l
-    enum-known-r
-    enum-known-l-2
-    enum-known-r-2
-    enum-known-l-3
-    enum-known-r-3
-    enum-known-l-4
-    enum-known-r-4
-    enum-known-l-5
-    enum-known-r-5
-    enum-known-l-6
-    enum-known-r-6
-    enum-known-l-7
-    enum-known-r-7
-    returns
-    returns-2
-    returns-3
-    returns-4
-    returns-5
-    returns-6
-    returns-7
-    returns-8
-    returns-9
-    returns-10
-    returns-11
-    returns-12
-    returns-13
-    returns-14)
+    (tie.spec (λ c. search needs) (λ c. search needs) (λ c. search needs) (λ c. search needs) (λ c. search needs) (λ c. search needs)
+    (λ c. search needs) (λ c. search needs) (λ c. search needs) (λ c. search needs) (λ c. search needs) (λ c. search needs) (λ c. search needs)
+    (λ c. search needs) returns returns-2 returns-3 returns-4 returns-5 returns-6 returns-7 returns-8 returns-9 returns-10 returns-11 returns-12
+    returns-13 returns-14)

@@ -9,21 +9,6 @@ use borrow.Author.Needs.{needs}
 use Rattle.conversion.proofs.convert.convert.Statement.{statement}
 use Rattle.conversion.proofs.convert.convert.Tie as tie
 
-enum-known-s : tie.Need-enum-known-s
-enum-known-s c = search needs
-
-from-int-requires : tie.Need-from-int-requires
-from-int-requires c κs = search needs
-
-enum-known-s-2 : tie.Need-enum-known-s-2
-enum-known-s-2 c = search needs
-
-from-float-requires : tie.Need-from-float-requires
-from-float-requires c κs = search needs
-
-stand-requires : tie.Need-stand-requires
-stand-requires c κs = search needs
-
 returns : tie.Need-returns
 returns c =
     let p = c .before .before .s .given in
@@ -39,12 +24,4 @@ returns-3 c = concrete-stands (c .before .before .args .ty) (c .before .before .
 pub convert-spec : {M : Type 1} → statement M
 convert-spec =
     tie.close
-    (tie.spec
-    enum-known-s
-    from-int-requires
-    enum-known-s-2
-    from-float-requires
-    stand-requires
-    returns
-    returns-2
-    returns-3)
+    (tie.spec (λ c. search needs) (λ c κs. search needs) (λ c. search needs) (λ c κs. search needs) (λ c κs. search needs) returns returns-2 returns-3)

@@ -8,21 +8,6 @@ use borrow.Author.Needs.{needs}
 use Rattle.conversion.proofs.convert.from_int.Statement.{statement}
 use Rattle.conversion.proofs.convert.from_int.Tie as tie
 
-int-to-float-requires : tie.Need-int-to-float-requires
-int-to-float-requires c κs = search needs
-
-int-to-i32-requires : tie.Need-int-to-i32-requires
-int-to-i32-requires c κs = search needs
-
-int-to-u32-requires : tie.Need-int-to-u32-requires
-int-to-u32-requires c κs = search needs
-
-int-to-f32-requires : tie.Need-int-to-f32-requires
-int-to-f32-requires c κs = search needs
-
-int-to-f16-requires : tie.Need-int-to-f16-requires
-int-to-f16-requires c κs = search needs
-
 returns : tie.Need-returns
 returns c = rw (c .match .keys1, toZ-ofZ w64 _ (c .before .fits .x))
 
@@ -47,16 +32,5 @@ returns-7 c = past-one (targets (c .before .args .x)) Nothing (c .before .args .
 pub from-int-spec : {M : Type 1} → statement M
 from-int-spec =
     tie.close
-    (tie.spec
-    int-to-float-requires
-    int-to-i32-requires
-    int-to-u32-requires
-    int-to-f32-requires
-    int-to-f16-requires
-    returns
-    returns-2
-    returns-3
-    returns-4
-    returns-5
-    returns-6
-    returns-7)
+    (tie.spec (λ c κs. search needs) (λ c κs. search needs) (λ c κs. search needs) (λ c κs. search needs) (λ c κs. search needs) returns returns-2
+    returns-3 returns-4 returns-5 returns-6 returns-7)

@@ -6,9 +6,6 @@ use borrow.Author.Needs.{needs}
 use Rattle.conversion.proofs.convert.stand.Statement.{statement}
 use Rattle.conversion.proofs.convert.stand.Tie as tie
 
-type-of-requires : tie.Need-type-of-requires
-type-of-requires c κs = search needs
-
 returns : tie.Need-returns
 returns c = picked _ _ (eq-eqb _ _ (sym (c .before .type-of .ensures) ∙ c .if1 .taken))
 
@@ -16,4 +13,4 @@ returns-2 : tie.Need-returns-2
 returns-2 c = passed _ _ (ne-eqb _ _ (λ e. c .if1 .left (c .before .type-of .ensures ∙ e)))
 
 pub stand-spec : {M : Type 1} → statement M
-stand-spec = tie.close (tie.spec type-of-requires returns returns-2)
+stand-spec = tie.close (tie.spec (λ c κs. search needs) returns returns-2)

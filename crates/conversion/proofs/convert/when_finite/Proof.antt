@@ -5,14 +5,8 @@ use borrow.Author.Needs.{needs}
 use Rattle.conversion.proofs.convert.when_finite.Statement.{statement}
 use Rattle.conversion.proofs.convert.when_finite.Tie as tie
 
-is-finite-requires : tie.Need-is-finite-requires
-is-finite-requires c κs = search needs
-
 returns : tie.Need-returns
 returns c = picked _ _ (sym (c .before .is-finite .ensures) ∙ c .if1 .taken)
 
-returns-2 : tie.Need-returns-2
-returns-2 c = search needs
-
 pub when-finite-spec : {M : Type 1} → statement M
-when-finite-spec = tie.close (tie.spec is-finite-requires returns returns-2)
+when-finite-spec = tie.close (tie.spec (λ c κs. search needs) returns (λ c. search needs))

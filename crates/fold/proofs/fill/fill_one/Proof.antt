@@ -18,5 +18,4 @@ returns c =
     fills-is _ _ _ (body .before .span-at .ensures) _ (body .body .ensures) _ _ _ (work .work .ensures) _ (put .put .ensures)
 
 pub fill-one-spec : {M : Type 1} → statement M
-fill-one-spec =
-    tie.close (tie.spec (λ c κs. search needs) (λ c κs. search needs) work-requires (λ c κs. search needs) (λ c. search needs) returns)
+fill-one-spec = tie.close (tie.spec (λ c κs. search needs) (λ c κs. search needs) work-requires (λ c κs. search needs) (λ c. search needs) returns)

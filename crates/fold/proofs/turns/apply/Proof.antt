@@ -70,6 +70,5 @@ returns c =
 pub apply-spec : {M : Type 1} → statement M
 apply-spec =
     tie.close
-    (tie.spec
-    Inv-loop μ-loop (λ c κs. tt) element-write-marks (λ c κs. tt) add-k loop-holds turn-requires add-count (λ c. omega arith) (λ c. omega arith)
-    loop-again same-length returns)
+    (tie.spec Inv-loop μ-loop (λ c κs. tt) element-write-marks (λ c κs. tt) add-k loop-holds turn-requires add-count (λ c. omega arith)
+    (λ c. omega arith) loop-again same-length returns)

@@ -41,6 +41,5 @@ returns-2 c =
 pub turn-spec : {M : Type 1} → statement M
 turn-spec =
     tie.close
-    (tie.spec
-    (λ c κs. search needs) (λ c κs. search needs) (λ c κs. search needs) work-requires (λ c κs. search needs) element-write-marks (λ c. search needs)
-    returns element-write-marks-2 returns-2)
+    (tie.spec (λ c κs. search needs) (λ c κs. search needs) (λ c κs. search needs) work-requires (λ c κs. search needs) element-write-marks
+    (λ c. search needs) returns element-write-marks-2 returns-2)

@@ -17,8 +17,5 @@ cast-result-2 c = pos-cast w64 _ (c .before .fits .x) (c .if1 .left)
 returns : tie.Need-returns
 returns c = size-neg w64 _ (c .before .fits .x) (c .if1 .taken)
 
-returns-2 : tie.Need-returns-2
-returns-2 c = search needs
-
 pub size-i64-spec : {M : Type 1} → statement M
-size-i64-spec = tie.close (tie.spec cast-result add-result cast-result-2 returns returns-2)
+size-i64-spec = tie.close (tie.spec cast-result add-result cast-result-2 returns (λ c. search needs))

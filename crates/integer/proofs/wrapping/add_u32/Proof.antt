@@ -6,11 +6,8 @@ use borrow.Author.Needs.{needs}
 use Rattle.integer.proofs.wrapping.add_u32.Statement.{statement}
 use Rattle.integer.proofs.wrapping.add_u32.Tie as tie
 
-wrapping-add-u32-requires : tie.Need-wrapping-add-u32-requires
-wrapping-add-u32-requires c κs = search needs
-
 returns : tie.Need-returns
 returns c = c .wrapping-add-u32 .ensures ∙ wrapU-pos w32 _
 
 pub add-u32-spec : {M : Type 1} → statement M
-add-u32-spec = tie.close (tie.spec wrapping-add-u32-requires returns)
+add-u32-spec = tie.close (tie.spec (λ c κs. search needs) returns)

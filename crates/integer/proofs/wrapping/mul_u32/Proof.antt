@@ -10,11 +10,8 @@ use Rattle.integer.proofs.wrapping.mul_u32.Tie as tie
 mul-result : tie.Need-mul-result
 mul-result c = omega (arith, mul-le-mul {n₁ = c .args .x} {m₁ = c .args .y} {n₂ = 4294967295} {m₂ = 4294967295} (omega arith) (omega arith))
 
-cast-result : tie.Need-cast-result
-cast-result c = search needs
-
 returns : tie.Need-returns
 returns c = wrapU-pos w32 _
 
 pub mul-u32-spec : {M : Type 1} → statement M
-mul-u32-spec = tie.close (tie.spec mul-result cast-result returns)
+mul-u32-spec = tie.close (tie.spec mul-result (λ c. search needs) returns)

@@ -6,20 +6,10 @@ use borrow.Author.Needs.{needs}
 use Rattle.integer.proofs.wrapping.neg_i32.Statement.{statement}
 use Rattle.integer.proofs.wrapping.neg_i32.Tie as tie
 
-bits-i32-requires : tie.Need-bits-i32-requires
-bits-i32-requires c κs = search needs
-
-wrapping-sub-u32-requires : tie.Need-wrapping-sub-u32-requires
-wrapping-sub-u32-requires c κs = search needs
-
-i32-of-bits-requires : tie.Need-i32-of-bits-requires
-i32-of-bits-requires c κs = search needs
-
 returns : tie.Need-returns
 returns c =
     let l : Fits w32 (c .before .wrapping-sub-u32 .result) = search needs in
     wrapped-neg w32 (c .before .before .before .fits .x) l (c .before .before .bits-i32 .ensures) (c .before .wrapping-sub-u32 .ensures) (c .i32-of-bits .ensures)
 
 pub neg-i32-spec : {M : Type 1} → statement M
-neg-i32-spec =
-    tie.close (tie.spec bits-i32-requires wrapping-sub-u32-requires i32-of-bits-requires returns)
+neg-i32-spec = tie.close (tie.spec (λ c κs. search needs) (λ c κs. search needs) (λ c κs. search needs) returns)

@@ -6,20 +6,10 @@ use borrow.Author.Needs.{needs}
 use Rattle.integer.proofs.wrapping.neg_i64.Statement.{statement}
 use Rattle.integer.proofs.wrapping.neg_i64.Tie as tie
 
-bits-i64-requires : tie.Need-bits-i64-requires
-bits-i64-requires c κs = search needs
-
-wrapping-sub-u64-requires : tie.Need-wrapping-sub-u64-requires
-wrapping-sub-u64-requires c κs = search needs
-
-i64-of-bits-requires : tie.Need-i64-of-bits-requires
-i64-of-bits-requires c κs = search needs
-
 returns : tie.Need-returns
 returns c =
     let l : Fits w64 (c .before .wrapping-sub-u64 .result) = search needs in
     wrapped-neg w64 (c .before .before .before .fits .x) l (c .before .before .bits-i64 .ensures) (c .before .wrapping-sub-u64 .ensures) (c .i64-of-bits .ensures)
 
 pub neg-i64-spec : {M : Type 1} → statement M
-neg-i64-spec =
-    tie.close (tie.spec bits-i64-requires wrapping-sub-u64-requires i64-of-bits-requires returns)
+neg-i64-spec = tie.close (tie.spec (λ c κs. search needs) (λ c κs. search needs) (λ c κs. search needs) returns)

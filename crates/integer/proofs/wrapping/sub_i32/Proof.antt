@@ -5,18 +5,6 @@ use borrow.Author.Needs.{needs}
 use Rattle.integer.proofs.wrapping.sub_i32.Statement.{statement}
 use Rattle.integer.proofs.wrapping.sub_i32.Tie as tie
 
-bits-i32-requires : tie.Need-bits-i32-requires
-bits-i32-requires c κs = search needs
-
-bits-i32-requires-2 : tie.Need-bits-i32-requires-2
-bits-i32-requires-2 c κs = search needs
-
-sub-u32-requires : tie.Need-sub-u32-requires
-sub-u32-requires c κs = search needs
-
-i32-of-bits-requires : tie.Need-i32-of-bits-requires
-i32-of-bits-requires c κs = search needs
-
 returns : tie.Need-returns
 returns c =
     let call = c .before .before .before .before in
@@ -24,6 +12,4 @@ returns c =
     (c .before .before .bits-i322 .ensures) (c .before .sub-u32 .ensures) (c .i32-of-bits .ensures)
 
 pub sub-i32-spec : {M : Type 1} → statement M
-sub-i32-spec =
-    tie.close
-    (tie.spec bits-i32-requires bits-i32-requires-2 sub-u32-requires i32-of-bits-requires returns)
+sub-i32-spec = tie.close (tie.spec (λ c κs. search needs) (λ c κs. search needs) (λ c κs. search needs) (λ c κs. search needs) returns)

@@ -9,30 +9,6 @@ use borrow.Author.Needs.{needs}
 use Rattle.relation.proofs.comparison.compare.Statement.{statement}
 use Rattle.relation.proofs.comparison.compare.Tie as tie
 
-numbers-requires : tie.Need-numbers-requires
-numbers-requires c κs = search needs
-
-enum-known-x : tie.Need-enum-known-x
-enum-known-x c = search needs
-
-compare-truths-requires : tie.Need-compare-truths-requires
-compare-truths-requires c κs = search needs
-
-enum-known-x-2 : tie.Need-enum-known-x-2
-enum-known-x-2 c = search needs
-
-compare-wholes-requires : tie.Need-compare-wholes-requires
-compare-wholes-requires c κs = search needs
-
-enum-known-x-3 : tie.Need-enum-known-x-3
-enum-known-x-3 c = search needs
-
-compare-reals-requires : tie.Need-compare-reals-requires
-compare-reals-requires c κs = search needs
-
-enum-told : tie.Need-enum-told
-enum-told c = search needs
-
 returns : tie.Need-returns
 returns c =
     let op = c .before .before .before .before .before .args .op in
@@ -60,16 +36,5 @@ returns-4 c =
 pub compare-spec : {M : Type 1} → statement M
 compare-spec =
     tie.close
-    (tie.spec
-    numbers-requires
-    enum-known-x
-    compare-truths-requires
-    enum-known-x-2
-    compare-wholes-requires
-    enum-known-x-3
-    compare-reals-requires
-    enum-told
-    returns
-    returns-2
-    returns-3
-    returns-4)
+    (tie.spec (λ c κs. search needs) (λ c. search needs) (λ c κs. search needs) (λ c. search needs) (λ c κs. search needs) (λ c. search needs)
+    (λ c κs. search needs) (λ c. search needs) returns returns-2 returns-3 returns-4)

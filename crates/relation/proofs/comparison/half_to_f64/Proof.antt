@@ -4,14 +4,8 @@ use borrow.Author.Needs.{needs}
 use Rattle.relation.proofs.comparison.half_to_f64.Statement.{statement}
 use Rattle.relation.proofs.comparison.half_to_f64.Tie as tie
 
-half-to-f32-requires : tie.Need-half-to-f32-requires
-half-to-f32-requires c κs = search needs
-
-f32-to-f64-with-nan-requires : tie.Need-f32-to-f64-with-nan-requires
-f32-to-f64-with-nan-requires c κs = search needs
-
 returns : tie.Need-returns
 returns c = c .f32-to-f64-with-nan .ensures ∙ c .before .half-to-f32 .ensures
 
 pub half-to-f64-spec : {M : Type 1} → statement M
-half-to-f64-spec = tie.close (tie.spec half-to-f32-requires f32-to-f64-with-nan-requires returns)
+half-to-f64-spec = tie.close (tie.spec (λ c κs. search needs) (λ c κs. search needs) returns)

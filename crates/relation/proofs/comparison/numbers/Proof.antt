@@ -7,18 +7,6 @@ use borrow.Author.Needs.{needs}
 use Rattle.relation.proofs.comparison.numbers.Statement.{statement}
 use Rattle.relation.proofs.comparison.numbers.Tie as tie
 
-enum-known-p : tie.Need-enum-known-p
-enum-known-p c = search needs
-
-enum-known-p-2 : tie.Need-enum-known-p-2
-enum-known-p-2 c = search needs
-
-enum-known-p-3 : tie.Need-enum-known-p-3
-enum-known-p-3 c = search needs
-
-enum-known-p-4 : tie.Need-enum-known-p-4
-enum-known-p-4 c = search needs
-
 cast-t17 : tie.Need-cast-t17
 cast-t17 c =
     let f : SFits w32 (c .before .p4 .given .0 .0) = search needs in
@@ -28,36 +16,6 @@ cast-t18 : tie.Need-cast-t18
 cast-t18 c =
     let f : SFits w32 (c .before .p4 .given .0 .1 .0) = search needs in
     rw (toZ-ofZ w32 _ f) (wider _ f)
-
-enum-known-p-5 : tie.Need-enum-known-p-5
-enum-known-p-5 c = search needs
-
-cast-t19 : tie.Need-cast-t19
-cast-t19 c = search needs
-
-cast-t20 : tie.Need-cast-t20
-cast-t20 c = search needs
-
-enum-known-p-6 : tie.Need-enum-known-p-6
-enum-known-p-6 c = search needs
-
-f32-to-f64-with-nan-requires : tie.Need-f32-to-f64-with-nan-requires
-f32-to-f64-with-nan-requires c κs = search needs
-
-f32-to-f64-with-nan-requires-2 : tie.Need-f32-to-f64-with-nan-requires-2
-f32-to-f64-with-nan-requires-2 c κs = search needs
-
-enum-known-p-7 : tie.Need-enum-known-p-7
-enum-known-p-7 c = search needs
-
-half-to-f64-requires : tie.Need-half-to-f64-requires
-half-to-f64-requires c κs = search needs
-
-half-to-f64-requires-2 : tie.Need-half-to-f64-requires-2
-half-to-f64-requires-2 c κs = search needs
-
-enum-told : tie.Need-enum-told
-enum-told c = search needs
 
 returns : tie.Need-returns
 returns c = rw (c .before .p .given .1)
@@ -92,34 +50,10 @@ returns-6 c = rw (c .before .before .before .p6 .given .1, c .before .f32-to-f64
 returns-7 : tie.Need-returns-7
 returns-7 c = rw (c .before .before .before .p7 .given .1, c .before .half-to-f64 .ensures, c .half-to-f642 .ensures)
 
-returns-8 : tie.Need-returns-8
-returns-8 c = search needs
-
 pub numbers-spec : {M : Type 1} → statement M
 numbers-spec =
     tie.close
-    (tie.spec
-    enum-known-p
-    enum-known-p-2
-    enum-known-p-3
-    enum-known-p-4
-    cast-t17
-    cast-t18
-    enum-known-p-5
-    cast-t19
-    cast-t20
-    enum-known-p-6
-    f32-to-f64-with-nan-requires
-    f32-to-f64-with-nan-requires-2
-    enum-known-p-7
-    half-to-f64-requires
-    half-to-f64-requires-2
-    enum-told
-    returns
-    returns-2
-    returns-3
-    returns-4
-    returns-5
-    returns-6
-    returns-7
-    returns-8)
+    (tie.spec (λ c. search needs) (λ c. search needs) (λ c. search needs) (λ c. search needs) cast-t17 cast-t18 (λ c. search needs)
+    (λ c. search needs) (λ c. search needs) (λ c. search needs) (λ c κs. search needs) (λ c κs. search needs) (λ c. search needs)
+    (λ c κs. search needs) (λ c κs. search needs) (λ c. search needs) returns returns-2 returns-3 returns-4 returns-5 returns-6 returns-7
+    (λ c. search needs))

@@ -5,14 +5,8 @@ use borrow.Author.Needs.{needs}
 use Rattle.relation.proofs.comparison.op_ne.Statement.{statement}
 use Rattle.relation.proofs.comparison.op_ne.Tie as tie
 
-common-requires : tie.Need-common-requires
-common-requires c κs = search needs
-
-compare-requires : tie.Need-compare-requires
-compare-requires c κs = search needs
-
 returns : tie.Need-returns
 returns c = c .compare .ensures ∙ ap neOf (c .before .common .ensures)
 
 pub op-ne-spec : {M : Type 1} → statement M
-op-ne-spec = tie.close (tie.spec common-requires compare-requires returns)
+op-ne-spec = tie.close (tie.spec (λ c κs. search needs) (λ c κs. search needs) returns)

@@ -5,9 +5,6 @@ use borrow.Author.Needs.{needs}
 use Rattle.relation.proofs.logical.and_pair.Statement.{statement}
 use Rattle.relation.proofs.logical.and_pair.Tie as tie
 
-enum-known-p : tie.Need-enum-known-p
-enum-known-p c = search needs
-
 returns : tie.Need-returns
 returns c = rw (c .before .p .given .1)
 
@@ -15,4 +12,4 @@ returns-2 : tie.Need-returns-2
 returns-2 c = no-truths _&&_ (c .before .args .p) (c .match .keys2)
 
 pub and-pair-spec : {M : Type 1} → statement M
-and-pair-spec = tie.close (tie.spec enum-known-p returns returns-2)
+and-pair-spec = tie.close (tie.spec (λ c. search needs) returns returns-2)

@@ -4,9 +4,6 @@ use borrow.Author.Needs.{needs}
 use Rattle.relation.proofs.logical.op_not.Statement.{statement}
 use Rattle.relation.proofs.logical.op_not.Tie as tie
 
-enum-known-s : tie.Need-enum-known-s
-enum-known-s c = search needs
-
 returns : tie.Need-returns
 returns c = rw (c .before .s .given .1)
 
@@ -14,4 +11,4 @@ returns-2 : tie.Need-returns-2
 returns-2 c = no-truth (c .before .args .s) (c .match .keys2)
 
 pub op-not-spec : {M : Type 1} → statement M
-op-not-spec = tie.close (tie.spec enum-known-s returns returns-2)
+op-not-spec = tie.close (tie.spec (λ c. search needs) returns returns-2)

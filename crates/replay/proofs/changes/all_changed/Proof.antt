@@ -40,16 +40,4 @@ returns-2 c = tt
 
 pub all-changed-spec : {M : Type 1} → statement M
 all-changed-spec =
-    tie.close
-    (tie.spec
-    Inv-loop
-    μ-loop
-    loop-holds
-    changed-requires
-    same-length
-    returns
-    sub-left
-    loop-less
-    loop-again
-    same-length-2
-    returns-2)
+    tie.close (tie.spec Inv-loop μ-loop loop-holds changed-requires same-length returns sub-left loop-less loop-again same-length-2 returns-2)

@@ -10,9 +10,6 @@ use Rattle.rounding.proofs.Range.{inside}
 use Rattle.rounding.proofs.narrow.f32_to_half.Statement.{statement}
 use Rattle.rounding.proofs.narrow.f32_to_half.Tie as tie
 
-f32-bits-requires : tie.Need-f32-bits-requires
-f32-bits-requires c κs = search needs
-
 leading-bits-requires : tie.Need-leading-bits-requires
 leading-bits-requires c κs = inside _ _ _ (c .if1 .taken)
 
@@ -21,22 +18,8 @@ returns c =
     let s = c .before .before .before in
     narrowed binary32 half (s .args .x) (subst T (sym (s .good .0 .1)) tt) (c .before .before .f32-bits .ensures) (c .leading-bits .ensures)
 
-f32-to-f64-with-nan-requires : tie.Need-f32-to-f64-with-nan-requires
-f32-to-f64-with-nan-requires c κs = search needs
-
-half-bits-requires : tie.Need-half-bits-requires
-half-bits-requires c κs = search needs
-
 returns-2 : tie.Need-returns-2
 returns-2 c = c .half-bits .ensures ∙ ap (λ (x : Float). toBits half (convert half x)) (c .before .f32-to-f64-with-nan .ensures)
 
 pub f32-to-half-spec : {M : Type 1} → statement M
-f32-to-half-spec =
-    tie.close
-    (tie.spec
-    f32-bits-requires
-    leading-bits-requires
-    returns
-    f32-to-f64-with-nan-requires
-    half-bits-requires
-    returns-2)
+f32-to-half-spec = tie.close (tie.spec (λ c κs. search needs) leading-bits-requires returns (λ c κs. search needs) (λ c κs. search needs) returns-2)

@@ -14,22 +14,11 @@ use Rattle.rounding.proofs.narrow.f64_to_f32.Tie as tie
 bits : (c : tie.After-narrow-bits) → c .narrow-bits .result ≡ toBits single (convert single (c .before .before .args .x))
 bits c = narrowed binary64 single (c .before .before .args .x) (subst T (sym (c .before .before .good .0 .1)) tt) (c .before .f64-bits .ensures) (c .narrow-bits .ensures)
 
-f64-bits-requires : tie.Need-f64-bits-requires
-f64-bits-requires c κs = search needs
-
-narrow-bits-requires : tie.Need-narrow-bits-requires
-narrow-bits-requires c κs = search needs
-
 cast-f32-of-bits : tie.Need-cast-f32-of-bits
 cast-f32-of-bits c = record { fits = rw (bits c) (bits-lt single single-sized (c .before .before .args .x)) }
-
-f32-of-bits-requires : tie.Need-f32-of-bits-requires
-f32-of-bits-requires c κs = search needs
 
 returns : tie.Need-returns
 returns c = let x = c .before .before .before .args .x in c .f32-of-bits .ensures ∙ ap (ofBits single) (bits (c .before)) ∙ bits-back binary32 (convert single x) (convert-fits binary32 x)
 
 pub f64-to-f32-spec : {M : Type 1} → statement M
-f64-to-f32-spec =
-    tie.close
-    (tie.spec f64-bits-requires narrow-bits-requires cast-f32-of-bits f32-of-bits-requires returns)
+f64-to-f32-spec = tie.close (tie.spec (λ c κs. search needs) (λ c κs. search needs) cast-f32-of-bits (λ c κs. search needs) returns)

@@ -14,12 +14,6 @@ use Rattle.rounding.proofs.narrow.half_bits.Tie as tie
 bits : (c : tie.After-narrow-bits) → c .narrow-bits .result ≡ toBits half (convert half (c .before .before .args .x))
 bits c = narrowed binary64 half (c .before .before .args .x) (subst T (sym (c .before .before .good .0 .1)) tt) (c .before .f64-bits .ensures) (c .narrow-bits .ensures)
 
-f64-bits-requires : tie.Need-f64-bits-requires
-f64-bits-requires c κs = search needs
-
-narrow-bits-requires : tie.Need-narrow-bits-requires
-narrow-bits-requires c κs = search needs
-
 cast-result : tie.Need-cast-result
 cast-result c = record { fits = rw (bits c) (bits-lt half half-sized (c .before .before .args .x)) }
 
@@ -27,4 +21,4 @@ returns : tie.Need-returns
 returns c = bits c
 
 pub half-bits-spec : {M : Type 1} → statement M
-half-bits-spec = tie.close (tie.spec f64-bits-requires narrow-bits-requires cast-result returns)
+half-bits-spec = tie.close (tie.spec (λ c κs. search needs) (λ c κs. search needs) cast-result returns)

@@ -13,22 +13,11 @@ use Rattle.rounding.proofs.narrow.i64_to_f32.Tie as tie
 bits : (c : tie.After-whole-bits) → c .whole-bits .result ≡ toBits single (ofInteger single (c .before .before .args .n))
 bits c = integer-bits single (c .before .before .args .n) (c .before .before .fits .n) (c .before .size-i64 .ensures) (c .whole-bits .ensures)
 
-size-i64-requires : tie.Need-size-i64-requires
-size-i64-requires c κs = search needs
-
-whole-bits-requires : tie.Need-whole-bits-requires
-whole-bits-requires c κs = search needs
-
 cast-f32-of-bits : tie.Need-cast-f32-of-bits
 cast-f32-of-bits c = record { fits = rw (bits c) (integer-lt single single-sized (c .before .before .args .n)) }
-
-f32-of-bits-requires : tie.Need-f32-of-bits-requires
-f32-of-bits-requires c κs = search needs
 
 returns : tie.Need-returns
 returns c = let n = c .before .before .before .args .n in c .f32-of-bits .ensures ∙ ap (ofBits single) (bits (c .before)) ∙ bits-back binary32 (ofInteger single n) (integer-fits binary32 n)
 
 pub i64-to-f32-spec : {M : Type 1} → statement M
-i64-to-f32-spec =
-    tie.close
-    (tie.spec size-i64-requires whole-bits-requires cast-f32-of-bits f32-of-bits-requires returns)
+i64-to-f32-spec = tie.close (tie.spec (λ c κs. search needs) (λ c κs. search needs) cast-f32-of-bits (λ c κs. search needs) returns)

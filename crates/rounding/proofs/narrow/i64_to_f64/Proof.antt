@@ -9,11 +9,8 @@ use Rattle.rounding.proofs.Same.{ofInt-is}
 use Rattle.rounding.proofs.narrow.i64_to_f64.Statement.{statement}
 use Rattle.rounding.proofs.narrow.i64_to_f64.Tie as tie
 
-nearest-i64-to-f64-requires : tie.Need-nearest-i64-to-f64-requires
-nearest-i64-to-f64-requires c κs = search needs
-
 returns : tie.Need-returns
 returns c = c .nearest-i64-to-f64 .ensures ∙ ofInt-is binary64 _ ∙ ap (ofInteger double) (toZ-ofZ w64 (c .before .args .n) (c .before .fits .n))
 
 pub i64-to-f64-spec : {M : Type 1} → statement M
-i64-to-f64-spec = tie.close (tie.spec nearest-i64-to-f64-requires returns)
+i64-to-f64-spec = tie.close (tie.spec (λ c κs. search needs) returns)

@@ -23,24 +23,6 @@ sign-at b h =
       | inr x ↦ let e : b / 2 ^ 31 * 2 ^ 15 ≡ 0 = omega arith in e ∙ ap (λ (s : Bool). cond s (2 ^ 15) 0) (sym (lt-leb (2 ^ 31) b x))
     ]
 
-sub-m : tie.Need-sub-m
-sub-m c = search needs
-
-add-q : tie.Need-add-q
-add-q c = search needs
-
-add-q-2 : tie.Need-add-q-2
-add-q-2 c = search needs
-
-mul-result : tie.Need-mul-result
-mul-result c = search needs
-
-add-result : tie.Need-add-result
-add-result c = search needs
-
-cast-result : tie.Need-cast-result
-cast-result c = search needs
-
 returns : tie.Need-returns
 returns c =
     let b = c .args .b in
@@ -49,4 +31,5 @@ returns c =
 
 pub leading-bits-spec : {M : Type 1} → statement M
 leading-bits-spec =
-    tie.close (tie.spec sub-m add-q add-q-2 mul-result add-result cast-result returns)
+    tie.close
+    (tie.spec (λ c. search needs) (λ c. search needs) (λ c. search needs) (λ c. search needs) (λ c. search needs) (λ c. search needs) returns)

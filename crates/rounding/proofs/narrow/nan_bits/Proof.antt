@@ -13,18 +13,6 @@ use Rattle.rounding.proofs.narrow.nan_bits.Tie as tie
 small : (c : tie.Start) → (1 * 2 ^ (c .args .digits - 1) % 2 ^ 64) * (2 * c .args .reach + 1) ≤ 2 ^ 31
 small c = weights (c .args .digits) (c .args .reach) (c .pre .1) (2 * c .args .reach + 1) (omega arith)
 
-sub-weight : tie.Need-sub-weight
-sub-weight c = search needs
-
-shl-weight : tie.Need-shl-weight
-shl-weight c = search needs
-
-mul-result : tie.Need-mul-result
-mul-result c = search needs
-
-add-result : tie.Need-add-result
-add-result c = search needs
-
 mul-result-2 : tie.Need-mul-result-2
 mul-result-2 c = omega (arith, small c)
 
@@ -39,6 +27,4 @@ returns c =
     ∙ ap (λ (x : ℕ). full (kind (g .digits) (g .reach)) * hidden (kind (g .digits) (g .reach)) + x / 2) (weight-is (g .digits) (c .pre .1))
 
 pub nan-bits-spec : {M : Type 1} → statement M
-nan-bits-spec =
-    tie.close
-    (tie.spec sub-weight shl-weight mul-result add-result mul-result-2 add-result-2 returns)
+nan-bits-spec = tie.close (tie.spec (λ c. search needs) (λ c. search needs) (λ c. search needs) (λ c. search needs) mul-result-2 add-result-2 returns)

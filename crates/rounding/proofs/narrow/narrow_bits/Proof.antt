@@ -21,15 +21,6 @@ place c = omega arith
 capped : (m : ℕ) → m ≤ 2 ^ 31 → min (2 ^ 32 - 1) m ≡ m
 capped m h = omega arith
 
-sub-c : tie.Need-sub-c
-sub-c c = search needs
-
-sub-c-2 : tie.Need-sub-c-2
-sub-c-2 c = search needs
-
-signed-bits-requires : tie.Need-signed-bits-requires
-signed-bits-requires c κs = search needs
-
 returns : tie.Need-returns
 returns c =
     let s = c .before .before .before in
@@ -39,17 +30,8 @@ returns c =
     ∙ ap (λ (x : ℕ). cond (leb (2 ^ 63) (g .b)) (signed k) 0 + x) (capped (full k * hidden k) (most-small (g .digits) (g .reach) (s .pre .1) (s .pre .3)))
     ∙ sym (bits-inf double k (g .b) (c .before .before .if1 .taken) (c .before .if2 .taken))
 
-nan-bits-requires : tie.Need-nan-bits-requires
-nan-bits-requires c κs = search needs
-
 returns-2 : tie.Need-returns-2
 returns-2 c = let g = c .before .before .before .args in c .nan-bits .ensures ∙ sym (bits-nan double (kind (g .digits) (g .reach)) (g .b) (c .before .before .if1 .taken) (c .before .if2 .left))
-
-packed-requires : tie.Need-packed-requires
-packed-requires c κs = search needs
-
-signed-bits-requires-2 : tie.Need-signed-bits-requires-2
-signed-bits-requires-2 c κs = search needs
 
 returns-3 : tie.Need-returns-3
 returns-3 c =
@@ -59,18 +41,6 @@ returns-3 c =
     c .signed-bits2 .ensures
     ∙ ap (λ (x : ℕ). cond (leb (2 ^ 63) (g .b)) (signed k) 0 + min x (full k * hidden k)) (c .before .packed .ensures)
     ∙ sym (bits-low double k (sized s) (1076 - g .reach - g .digits) (place s) (g .b) (c .before .before .if3 .taken))
-
-add-packed : tie.Need-add-packed
-add-packed c = search needs
-
-sub-packed : tie.Need-sub-packed
-sub-packed c = search needs
-
-packed-requires-2 : tie.Need-packed-requires-2
-packed-requires-2 c κs = search needs
-
-signed-bits-requires-3 : tie.Need-signed-bits-requires-3
-signed-bits-requires-3 c κs = search needs
 
 returns-4 : tie.Need-returns-4
 returns-4 c =
@@ -84,18 +54,5 @@ returns-4 c =
 pub narrow-bits-spec : {M : Type 1} → statement M
 narrow-bits-spec =
     tie.close
-    (tie.spec
-    sub-c
-    sub-c-2
-    signed-bits-requires
-    returns
-    nan-bits-requires
-    returns-2
-    packed-requires
-    signed-bits-requires-2
-    returns-3
-    add-packed
-    sub-packed
-    packed-requires-2
-    signed-bits-requires-3
-    returns-4)
+    (tie.spec (λ c. search needs) (λ c. search needs) (λ c κs. search needs) returns (λ c κs. search needs) returns-2 (λ c κs. search needs)
+    (λ c κs. search needs) returns-3 (λ c. search needs) (λ c. search needs) (λ c κs. search needs) (λ c κs. search needs) returns-4)

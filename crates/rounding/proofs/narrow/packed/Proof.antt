@@ -31,32 +31,8 @@ shl-top c = zeros-lt (c .before .args .m) (some c) (c .before .fits .m .fits)
 add-low : tie.Need-add-low
 add-low c = omega (arith, leading-le 64 (c .before .args .m))
 
-sub-weight : tie.Need-sub-weight
-sub-weight c = search needs
-
-shl-weight : tie.Need-shl-weight
-shl-weight c = search needs
-
 add-if2 : tie.Need-add-if2
 add-if2 c = omega (arith, leading-le 64 (c .before .args .m))
-
-add-if2-2 : tie.Need-add-if2-2
-add-if2-2 c = search needs
-
-add-dropped : tie.Need-add-dropped
-add-dropped c = search needs
-
-sub-dropped : tie.Need-sub-dropped
-sub-dropped c = search needs
-
-sub-dropped-2 : tie.Need-sub-dropped-2
-sub-dropped-2 c = search needs
-
-sub-round-whole : tie.Need-sub-round-whole
-sub-round-whole c = search needs
-
-round-whole-requires : tie.Need-round-whole-requires
-round-whole-requires c κs = search needs
 
 dropped-weight : (c : tie.After-round-whole)
     → let g = c .before .before .before .args in (64 + g .a - (g .c + leadingZeros 64 (g .m)) - g .digits) * (1 * 2 ^ (g .digits - 1) % 2 ^ 64) ≤ 2 ^ 36
@@ -79,12 +55,6 @@ mul-result c = omega (arith, dropped-weight c)
 add-result : tie.Need-add-result
 add-result c = omega (arith, dropped-weight c, rounded c, kept c)
 
-sub-round-whole-2 : tie.Need-sub-round-whole-2
-sub-round-whole-2 c = search needs
-
-round-whole-requires-2 : tie.Need-round-whole-requires-2
-round-whole-requires-2 c κs = search needs
-
 returns-2 : tie.Need-returns-2
 returns-2 c =
     let s = c .before .before .before in
@@ -105,23 +75,6 @@ returns-3 c =
 pub packed-spec : {M : Type 1} → statement M
 packed-spec =
     tie.close
-    (tie.spec
-    returns
-    cast-zeros
-    shl-top
-    add-low
-    sub-weight
-    shl-weight
-    add-if2
-    add-if2-2
-    add-dropped
-    sub-dropped
-    sub-dropped-2
-    sub-round-whole
-    round-whole-requires
-    mul-result
-    add-result
-    sub-round-whole-2
-    round-whole-requires-2
-    returns-2
-    returns-3)
+    (tie.spec returns cast-zeros shl-top add-low (λ c. search needs) (λ c. search needs) add-if2 (λ c. search needs) (λ c. search needs)
+    (λ c. search needs) (λ c. search needs) (λ c. search needs) (λ c κs. search needs) mul-result add-result (λ c. search needs)
+    (λ c κs. search needs) returns-2 returns-3)

@@ -24,26 +24,8 @@ most-small c x h = weights (c .args .digits) (c .args .reach) (c .pre .1) x h
 q-small : (c : tie.Joined1) → c .if1 .q ≤ 2 ^ 31
 q-small c = omega (arith, q-is c, most-is (c .before .args .digits) (c .before .args .reach) (c .before .pre .1), most-small (c .before) (2 * c .before .args .reach + 1) (omega arith))
 
-sub-weight : tie.Need-sub-weight
-sub-weight c = search needs
-
-shl-weight : tie.Need-shl-weight
-shl-weight c = search needs
-
-mul-most : tie.Need-mul-most
-mul-most c = search needs
-
-add-most : tie.Need-add-most
-add-most c = search needs
-
 mul-most-2 : tie.Need-mul-most-2
 mul-most-2 c = omega (arith, most-small c (2 * c .args .reach + 1) (omega arith))
-
-mul-result : tie.Need-mul-result
-mul-result c = search needs
-
-add-result : tie.Need-add-result
-add-result c = search needs
 
 mul-result-2 : tie.Need-mul-result-2
 mul-result-2 c = omega (arith, most-small (c .before .before) (2 * c .before .before .args .reach + 2) (omega arith))
@@ -70,15 +52,5 @@ returns-2 c =
 pub signed-bits-spec : {M : Type 1} → statement M
 signed-bits-spec =
     tie.close
-    (tie.spec
-    sub-weight
-    shl-weight
-    mul-most
-    add-most
-    mul-most-2
-    mul-result
-    add-result
-    mul-result-2
-    add-result-2
-    returns
-    returns-2)
+    (tie.spec (λ c. search needs) (λ c. search needs) (λ c. search needs) (λ c. search needs) mul-most-2 (λ c. search needs) (λ c. search needs)
+    mul-result-2 add-result-2 returns returns-2)

@@ -9,18 +9,6 @@ use Rattle.rounding.proofs.Pack.{round-bits}
 use Rattle.rounding.proofs.narrow.whole_bits.Statement.{statement}
 use Rattle.rounding.proofs.narrow.whole_bits.Tie as tie
 
-add-packed : tie.Need-add-packed
-add-packed c = search needs
-
-sub-packed : tie.Need-sub-packed
-sub-packed c = search needs
-
-packed-requires : tie.Need-packed-requires
-packed-requires c κs = search needs
-
-signed-bits-requires : tie.Need-signed-bits-requires
-signed-bits-requires c κs = search needs
-
 returns : tie.Need-returns
 returns c =
     let s = c .before .before in
@@ -31,5 +19,4 @@ returns c =
     ∙ sym (round-bits k (record { two = s .pre .0; one = s .pre .2 }) (g .neg) (g .n) 1)
 
 pub whole-bits-spec : {M : Type 1} → statement M
-whole-bits-spec =
-    tie.close (tie.spec add-packed sub-packed packed-requires signed-bits-requires returns)
+whole-bits-spec = tie.close (tie.spec (λ c. search needs) (λ c. search needs) (λ c κs. search needs) (λ c κs. search needs) returns)

@@ -6,4 +6,5 @@ use Rattle.rounding.proofs.patterns.finite_f64.Tie as tie
 
 pub finite-f64-spec : {M : Type 1} → statement M
 unfolding div neg ofBits
-finite-f64-spec = tie.close (tie.spec (λ c. finite-above (c .before .args .x) (c .if1 .taken)) (λ c. finite-below (c .before .args .x) (c .if1 .left)))
+finite-f64-spec =
+    tie.close (tie.spec (λ c. finite-above (c .before .args .x) (c .if1 .taken)) (λ c. finite-below (c .before .args .x) (c .if1 .left)))

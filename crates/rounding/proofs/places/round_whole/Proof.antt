@@ -15,15 +15,6 @@ returns c = let m = c .before .args .m in subst (λ (p : ℕ). m ≡ closest m (
 returns-2 : tie.Need-returns-2
 returns-2 c = let s = c .before .before in all-cut (s .args .m) (s .args .places) (s .fits .m .fits) (c .if2 .taken)
 
-sub-below : tie.Need-sub-below
-sub-below c = search needs
-
-shr-upper : tie.Need-shr-upper
-shr-upper c = search needs
-
-shl-alone : tie.Need-shl-alone
-shl-alone c = search needs
-
 add-result : tie.Need-add-result
 add-result c = let s = c .before .before .before in omega (arith, s .fits .m .fits, div-le-self (s .args .m) (2 ^ (s .args .places - 1)))
 
@@ -34,6 +25,4 @@ returns-4 : tie.Need-returns-4
 returns-4 c = let s = c .before .before .before in stays (s .args .m) (s .args .places) (c .before .before .if1 .left) (s .fits .m .fits) (c .if3 .left)
 
 pub round-whole-spec : {M : Type 1} → statement M
-round-whole-spec =
-    tie.close
-    (tie.spec returns returns-2 sub-below shr-upper shl-alone add-result returns-3 returns-4)
+round-whole-spec = tie.close (tie.spec returns returns-2 (λ c. search needs) (λ c. search needs) (λ c. search needs) add-result returns-3 returns-4)

@@ -23,12 +23,6 @@ infinite c =
 normal-requires : tie.Need-normal-requires
 normal-requires c κs = let w = inside _ (c .before .args .h % 2 ^ 15) _ (c .if1 .taken) in omega (arith, w .0, w .1)
 
-returns : tie.Need-returns
-returns c = search needs
-
-small-requires : tie.Need-small-requires
-small-requires c κs = search needs
-
 returns-2 : tie.Need-returns-2
 returns-2 c =
     let h = c .before .before .before .args .h in
@@ -49,6 +43,4 @@ unfolding Ieee.div Ieee.ofBits
 returns-5 c = ap inf (sym (c .if4 .left)) ∙ sym (infinite (c .before))
 
 pub half-to-f32-spec : {M : Type 1} → statement M
-half-to-f32-spec =
-    tie.close
-    (tie.spec normal-requires returns small-requires returns-2 returns-3 returns-4 returns-5)
+half-to-f32-spec = tie.close (tie.spec normal-requires (λ c. search needs) (λ c κs. search needs) returns-2 returns-3 returns-4 returns-5)

@@ -7,24 +7,6 @@ use borrow.Author.Needs.{needs}
 use Rattle.rounding.proofs.widen.normal.Statement.{statement}
 use Rattle.rounding.proofs.widen.normal.Tie as tie
 
-cast-sign : tie.Need-cast-sign
-cast-sign c = search needs
-
-mul-sign : tie.Need-mul-sign
-mul-sign c = search needs
-
-cast-b : tie.Need-cast-b
-cast-b c = search needs
-
-mul-b : tie.Need-mul-b
-mul-b c = search needs
-
-add-b : tie.Need-add-b
-add-b c = search needs
-
-add-result : tie.Need-add-result
-add-result c = search needs
-
 float-from-bits-result : tie.Need-float-from-bits-result
 float-from-bits-result c = read-plain binary32 _ (omega arith)
 
@@ -34,4 +16,5 @@ returns c = same-half (c .args .h) _ (c .pre .0) (c .pre .1) (omega arith) (omeg
 pub normal-spec : {M : Type 1} → statement M
 normal-spec =
     tie.close
-    (tie.spec cast-sign mul-sign cast-b mul-b add-b add-result float-from-bits-result returns)
+    (tie.spec (λ c. search needs) (λ c. search needs) (λ c. search needs) (λ c. search needs) (λ c. search needs) (λ c. search needs)
+    float-from-bits-result returns)

@@ -8,9 +8,6 @@ use Rattle.rounding.proofs.Exact.{widened, neg-odd}
 use Rattle.rounding.proofs.widen.small.Statement.{statement}
 use Rattle.rounding.proofs.widen.small.Tie as tie
 
-int-to-float-r : tie.Need-int-to-float-r
-int-to-float-r c = search needs
-
 float-from-bits-r : tie.Need-float-from-bits-r
 unfolding nanBits
 float-from-bits-r c = tt
@@ -26,4 +23,4 @@ unfolding Ieee.ofBits
 returns-2 c = let s = c .before .before in widened (s .args .m) (s .pre) _ (refl, refl) ∙ ap (λ (b : Bool). odd 11 b (s .args .m) 0 24) (sym (c .if1 .left))
 
 pub small-spec : {M : Type 1} → statement M
-small-spec = tie.close (tie.spec int-to-float-r float-from-bits-r returns returns-2)
+small-spec = tie.close (tie.spec (λ c. search needs) float-from-bits-r returns returns-2)

@@ -60,5 +60,5 @@ judged c =
 pub binary-spec : {M : Type 1} → statement M
 binary-spec =
     tie.close
-    (tie.spec (λ c κs. search needs) (λ c κs. search needs) no-operator (λ c κs. search needs) (λ c κs. search needs) no-stage
-    (λ c κs. search needs) (λ c κs. search needs) left-malformed (λ c κs. search needs) (λ c κs. search needs) right-malformed judge-requires judged)
+    (tie.spec (λ c κs. search needs) (λ c κs. search needs) no-operator (λ c κs. search needs) (λ c κs. search needs) no-stage (λ c κs. search needs)
+    (λ c κs. search needs) left-malformed (λ c κs. search needs) (λ c κs. search needs) right-malformed judge-requires judged)

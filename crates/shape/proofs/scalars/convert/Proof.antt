@@ -38,6 +38,5 @@ converted c =
 pub convert-spec : {M : Type 1} → statement M
 convert-spec =
     tie.close
-    (tie.spec (λ c κs. search needs) unconverted
-    (λ c κs. search needs) (λ c. search needs) (λ c. search needs) (λ c κs. search needs) left-refused
+    (tie.spec (λ c κs. search needs) unconverted (λ c κs. search needs) (λ c. search needs) (λ c. search needs) (λ c κs. search needs) left-refused
     (λ c κs. search needs) (λ c. search needs) (λ c. search needs) (λ c κs. search needs) right-refused (λ c κs. search needs) converted)

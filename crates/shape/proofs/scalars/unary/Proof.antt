@@ -5,7 +5,7 @@ use Rattle.operand.proofs.Shapes.{formed-one}
 use Rattle.dispatch.specs.Meaning.{unaryMeaning}
 use Rattle.dispatch.proofs.Checks.{refuses, passes}
 use Rattle.shape.specs.Scalars.{stepAnswer}
-use Rattle.shape.proofs.OnScalars.{step-refused, step-bits, unary-one}
+use Rattle.shape.proofs.OnScalars.{unary-refused, unary-bits}
 use Rattle.shape.proofs.scalars.unary.Statement.{statement}
 use Rattle.shape.proofs.scalars.unary.Tie as tie
 
@@ -29,46 +29,30 @@ malformed c =
     (passes _ _ (s .stage-known .ensures) _ _ _ (p .before .if2 .left)
     (refuses _ _ (p .proper .ensures ∙ sym (formed-one _ _)) _ _ _ (c .before .if3 .taken) (ap stepAnswer (c .refuse3 .ensures))))
 
-no-right : tie.Need-returns-4
-unfolding unaryMeaning
-no-right c =
-    let r = c .before .before in
-    let p = r .before .before in
-    let s = p .before .before in
-    passes _ _ (s .before .before .unary-known .ensures) _ _ _ (s .before .if1 .left)
-    (passes _ _ (s .stage-known .ensures) _ _ _ (p .before .if2 .left)
-    (passes _ _ (p .proper .ensures ∙ sym (formed-one _ _)) _ _ _ (r .before .if3 .left)
-    (refuses _ _ (r .unary-right .ensures) _ _ _ (c .before .if4 .taken) (ap stepAnswer (c .refuse4 .ensures)) ∙ sym (unary-one _ _ _))))
-
-refused : tie.Need-returns-5
+refused : tie.Need-returns-4
 unfolding unaryMeaning
 refused c =
-    let u = c .before .before in
-    let r = u .before .before in
-    let p = r .before .before in
+    let u = c .before .before .before in
+    let p = u .before .before in
     let s = p .before .before in
     passes _ _ (s .before .before .unary-known .ensures) _ _ _ (s .before .if1 .left)
     (passes _ _ (s .stage-known .ensures) _ _ _ (p .before .if2 .left)
-    (passes _ _ (p .proper .ensures ∙ sym (formed-one _ _)) _ _ _ (r .before .if3 .left)
-    (passes _ _ (r .unary-right .ensures) _ _ _ (u .before .if4 .left)
-    (step-refused _ _ (u .unary-step .ensures) _ _ (c .enum-told .given .1)) ∙ sym (unary-one _ _ _))))
+    (passes _ _ (p .proper .ensures ∙ sym (formed-one _ _)) _ _ _ (u .before .if3 .left)
+    (unary-refused _ _ _ _ (u .unary-step .ensures) _ _ (c .before .enum-told .given .1) (ap stepAnswer (c .refuse4 .ensures)))))
 
-answered : tie.Need-returns-6
+answered : tie.Need-returns-5
 unfolding unaryMeaning
 answered c =
     let u = c .before .before .before in
-    let r = u .before .before in
-    let p = r .before .before in
+    let p = u .before .before in
     let s = p .before .before in
     passes _ _ (s .before .before .unary-known .ensures) _ _ _ (s .before .if1 .left)
     (passes _ _ (s .stage-known .ensures) _ _ _ (p .before .if2 .left)
-    (passes _ _ (p .proper .ensures ∙ sym (formed-one _ _)) _ _ _ (r .before .if3 .left)
-    (passes _ _ (r .unary-right .ensures) _ _ _ (u .before .if4 .left)
-    (step-bits _ _ (u .unary-step .ensures) _ _ _ _ (c .before .step .given .1) refl) ∙ sym (unary-one _ _ _))))
+    (passes _ _ (p .proper .ensures ∙ sym (formed-one _ _)) _ _ _ (u .before .if3 .left)
+    (unary-bits _ _ _ _ (u .unary-step .ensures) _ _ _ (c .before .step .given .1) refl)))
 
 pub unary-spec : {M : Type 1} → statement M
 unary-spec =
     tie.close
-    (tie.spec (λ c κs. search needs) (λ c κs. search needs) no-operator (λ c κs. search needs) (λ c κs. search needs) no-stage
-    (λ c κs. search needs) (λ c κs. search needs) malformed (λ c κs. search needs) (λ c κs. search needs) no-right (λ c κs. search needs)
-    (λ c. search needs) (λ c. search needs) refused answered)
+    (tie.spec (λ c κs. search needs) (λ c κs. search needs) no-operator (λ c κs. search needs) (λ c κs. search needs) no-stage (λ c κs. search needs)
+    (λ c κs. search needs) malformed (λ c κs. search needs) (λ c. search needs) (λ c. search needs) (λ c κs. search needs) refused answered)

@@ -16,14 +16,8 @@ Inv-loop b at n ty p₀ more₀ p more = (allProper ty n b at ≡ allProper ty m
 abbrev μ-loop : tie.MeasureT-loop
 μ-loop b at n ty p₀ more₀ p more = more
 
-loop-holds : tie.Need-loop-holds Inv-loop μ-loop
-loop-holds c = search needs
-
 word-at-requires : tie.Need-word-at-requires Inv-loop μ-loop
 word-at-requires c κs = omega arith
-
-proper-requires : tie.Need-proper-requires Inv-loop μ-loop
-proper-requires c κs = search needs
 
 returns : tie.Need-returns Inv-loop μ-loop
 returns c =
@@ -51,15 +45,4 @@ returns-2 c = sym (c .before .loop .inv .0 ∙ none-proper _ _ _ _ (c .loop-test
 pub all-proper-spec : {M : Type 1} → statement M
 all-proper-spec =
     tie.close
-    (tie.spec
-    Inv-loop
-    μ-loop
-    loop-holds
-    word-at-requires
-    proper-requires
-    returns
-    add-p
-    sub-more
-    loop-less
-    loop-again
-    returns-2)
+    (tie.spec Inv-loop μ-loop (λ c. search needs) word-at-requires (λ c κs. search needs) returns add-p sub-more loop-less loop-again returns-2)

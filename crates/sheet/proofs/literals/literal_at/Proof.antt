@@ -5,15 +5,6 @@ use borrow.Author.Needs.{needs}
 use Rattle.sheet.proofs.literals.literal_at.Statement.{statement}
 use Rattle.sheet.proofs.literals.literal_at.Tie as tie
 
-read-literal-requires : tie.Need-read-literal-requires
-read-literal-requires c κs = search needs
-
-enum-known-next : tie.Need-enum-known-next
-enum-known-next c = search needs
-
-enum-told : tie.Need-enum-told
-enum-told c = search needs
-
 returns : tie.Need-returns
 returns c = refused-loads _ _ _ (c .before .before .read-literal .ensures) _ _ (c .enum-told .given .1)
 
@@ -22,9 +13,6 @@ literal-head-requires c κs = loads-head _ _ _ (c .before .before .before .read-
 
 add-load : tie.Need-add-load
 add-load c = let i = c .before .before in omega (arith, loads-head _ _ _ (i .before .before .read-literal .ensures) _ (i .next .given .1))
-
-area-requires : tie.Need-area-requires
-area-requires c κs = search needs
 
 load-requires : tie.Need-load-requires
 load-requires c κs =
@@ -40,13 +28,5 @@ returns-2 c =
 pub literal-at-spec : {M : Type 1} → statement M
 literal-at-spec =
     tie.close
-    (tie.spec
-    read-literal-requires
-    enum-known-next
-    enum-told
-    returns
-    literal-head-requires
-    add-load
-    area-requires
-    load-requires
-    returns-2)
+    (tie.spec (λ c κs. search needs) (λ c. search needs) (λ c. search needs) returns literal-head-requires add-load (λ c κs. search needs)
+    load-requires returns-2)

@@ -4,12 +4,6 @@ use borrow.Author.Needs.{needs}
 use Rattle.sheet.proofs.literals.literal_ok.Statement.{statement}
 use Rattle.sheet.proofs.literals.literal_ok.Tie as tie
 
-shape-ok-requires : tie.Need-shape-ok-requires
-shape-ok-requires c κs = search needs
-
-concrete-requires : tie.Need-concrete-requires
-concrete-requires c κs = search needs
-
 returns : tie.Need-returns
 returns c =
     let t = c .before .before in
@@ -17,4 +11,4 @@ returns c =
     ok-by-tests _ _ (a .setting) (a .h) (t .before .shape-ok .ensures) (t .concrete .ensures)
 
 pub literal-ok-spec : {M : Type 1} → statement M
-literal-ok-spec = tie.close (tie.spec shape-ok-requires concrete-requires returns)
+literal-ok-spec = tie.close (tie.spec (λ c κs. search needs) (λ c κs. search needs) returns)

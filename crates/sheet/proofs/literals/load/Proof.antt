@@ -48,17 +48,5 @@ returns c = all-loaded _ _ _ _ _ _ (c .before .loop .inv .1) (c .loop-test .left
 pub load-spec : {M : Type 1} → statement M
 load-spec =
     tie.close
-    (tie.spec
-    Inv-loop
-    μ-loop
-    loop-holds
-    mul-word-at
-    add-word-at
-    word-at-requires
-    kept-requires
-    mul-out
-    array-write-out
-    add-i
-    loop-less
-    loop-again
+    (tie.spec Inv-loop μ-loop loop-holds mul-word-at add-word-at word-at-requires kept-requires mul-out array-write-out add-i loop-less loop-again
     returns)

@@ -6,17 +6,8 @@ use borrow.Author.Needs.{needs}
 use Rattle.sheet.proofs.names.marked_at.Statement.{statement}
 use Rattle.sheet.proofs.names.marked_at.Tie as tie
 
-shared-slice-read-if1 : tie.Need-shared-slice-read-if1
-shared-slice-read-if1 c = search needs
-
 returns : tie.Need-returns
 returns c = simp (ne-eqb _ _ (c .if1 .taken))
-
-add-k : tie.Need-add-k
-add-k c = search needs
-
-shared-slice-read-k : tie.Need-shared-slice-read-k
-shared-slice-read-k c = search needs
 
 cast-k : tie.Need-cast-k
 cast-k c = omega (arith, c .shared-slice-known2 .given (c .before .before .before .args .at + 1))
@@ -28,13 +19,4 @@ returns-2 : tie.Need-returns-2
 returns-2 c = simp (eq-eqb _ _ (c .before .before .if1 .left))
 
 pub marked-at-spec : {M : Type 1} → statement M
-marked-at-spec =
-    tie.close
-    (tie.spec
-    shared-slice-read-if1
-    returns
-    add-k
-    shared-slice-read-k
-    cast-k
-    element-copy-out-result
-    returns-2)
+marked-at-spec = tie.close (tie.spec (λ c. search needs) returns (λ c. search needs) (λ c. search needs) cast-k element-copy-out-result returns-2)

@@ -41,15 +41,4 @@ returns-2 : tie.Need-returns-2 Inv-loop μ-loop
 returns-2 c = sym (passing-end _ _ _ _ _ (c .before .loop .inv) (c .loop-test .left))
 
 pub scan-spec : {M : Type 1} → statement M
-scan-spec =
-    tie.close
-    (tie.spec
-    Inv-loop
-    μ-loop
-    loop-holds
-    marked-at-requires
-    returns
-    after-requires
-    loop-less
-    loop-again
-    returns-2)
+scan-spec = tie.close (tie.spec Inv-loop μ-loop loop-holds marked-at-requires returns after-requires loop-less loop-again returns-2)

@@ -8,17 +8,8 @@ use borrow.Author.Needs.{needs}
 use Rattle.sheet.proofs.node.read_reference.Statement.{statement}
 use Rattle.sheet.proofs.node.read_reference.Tie as tie
 
-remaining-requires : tie.Need-remaining-requires
-remaining-requires c κs = search needs
-
 returns : tie.Need-returns
 returns c = ap seenOf (sym (reference-cut _ _ _ _ (omega arith)))
-
-add-k : tie.Need-add-k
-add-k c = search needs
-
-shared-slice-read-k : tie.Need-shared-slice-read-k
-shared-slice-read-k c = search needs
 
 cast-k : tie.Need-cast-k
 cast-k c = omega (arith, c .shared-slice-known3 .given (c .before .before .before .before .before .args .at + 1))
@@ -26,14 +17,8 @@ cast-k c = omega (arith, c .shared-slice-known3 .given (c .before .before .befor
 returns-2 : tie.Need-returns-2
 returns-2 c = ap seenOf (sym (reference-late _ _ _ _ (omega arith) (omega arith)))
 
-shared-slice-read-if3 : tie.Need-shared-slice-read-if3
-shared-slice-read-if3 c = search needs
-
 returns-3 : tie.Need-returns-3
 returns-3 c = ap seenOf (sym (reference-above _ _ _ _ (omega arith) (c .before .before .if2 .left) (c .if3 .taken)))
-
-add-t6 : tie.Need-add-t6
-add-t6 c = search needs
 
 returns-4 : tie.Need-returns-4
 returns-4 c = ap seenOf (sym (reference-good _ _ _ _ (omega arith) (c .before .before .if2 .left) (c .if3 .left)))
@@ -41,14 +26,5 @@ returns-4 c = ap seenOf (sym (reference-good _ _ _ _ (omega arith) (c .before .b
 pub read-reference-spec : {M : Type 1} → statement M
 read-reference-spec =
     tie.close
-    (tie.spec
-    remaining-requires
-    returns
-    add-k
-    shared-slice-read-k
-    cast-k
-    returns-2
-    shared-slice-read-if3
-    returns-3
-    add-t6
-    returns-4)
+    (tie.spec (λ c κs. search needs) returns (λ c. search needs) (λ c. search needs) cast-k returns-2 (λ c. search needs) returns-3
+    (λ c. search needs) returns-4)

@@ -4,15 +4,6 @@ use borrow.Author.Needs.{needs}
 use Rattle.sheet.proofs.record.read_body.Statement.{statement}
 use Rattle.sheet.proofs.record.read_body.Tie as tie
 
-read-expression-requires : tie.Need-read-expression-requires
-read-expression-requires c κs = search needs
-
-enum-known-seen : tie.Need-enum-known-seen
-enum-known-seen c = search needs
-
-enum-told : tie.Need-enum-told
-enum-told c = search needs
-
 returns : tie.Need-returns
 returns c = body-refused _ _ _ _ (c .before .before .read-expression .ensures) _ _ (c .enum-told .given .1)
 
@@ -23,6 +14,4 @@ returns-3 : tie.Need-returns-3
 returns-3 c = body-whole _ _ _ _ (c .before .before .before .before .read-expression .ensures) _ (c .before .before .seen .given .1) (c .if1 .left)
 
 pub read-body-spec : {M : Type 1} → statement M
-read-body-spec =
-    tie.close
-    (tie.spec read-expression-requires enum-known-seen enum-told returns returns-2 returns-3)
+read-body-spec = tie.close (tie.spec (λ c κs. search needs) (λ c. search needs) (λ c. search needs) returns returns-2 returns-3)

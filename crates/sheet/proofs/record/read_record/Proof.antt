@@ -5,24 +5,6 @@ use borrow.Author.Needs.{needs}
 use Rattle.sheet.proofs.record.read_record.Statement.{statement}
 use Rattle.sheet.proofs.record.read_record.Tie as tie
 
-read-head-requires : tie.Need-read-head-requires
-read-head-requires c κs = search needs
-
-enum-known-k : tie.Need-enum-known-k
-enum-known-k c = search needs
-
-enum-known-stage : tie.Need-enum-known-stage
-enum-known-stage c = search needs
-
-body-requires : tie.Need-body-requires
-body-requires c κs = search needs
-
-read-body-requires : tie.Need-read-body-requires
-read-body-requires c κs = search needs
-
-enum-known-k-2 : tie.Need-enum-known-k-2
-enum-known-k-2 c = search needs
-
 add-t17 : tie.Need-add-t17
 add-t17 c =
     let h = c .before .before .before .before .before .before in
@@ -31,12 +13,6 @@ add-t17 c =
       bad-place _ _ _ _ _ _ _ (h .before .before .read-head .ensures) (h .stage .given .1) _ (c .before .before .before .before .body .ensures) _
           (c .before .before .before .read-body .ensures) _ _ (c .before .k2 .given .1),
     )
-
-enum-known-n : tie.Need-enum-known-n
-enum-known-n c = search needs
-
-stage-of-requires : tie.Need-stage-of-requires
-stage-of-requires c κs = search needs
 
 add-t19 : tie.Need-add-t19
 add-t19 c =
@@ -65,17 +41,5 @@ returns-3 c =
 pub read-record-spec : {M : Type 1} → statement M
 read-record-spec =
     tie.close
-    (tie.spec
-    read-head-requires
-    enum-known-k
-    enum-known-stage
-    body-requires
-    read-body-requires
-    enum-known-k-2
-    add-t17
-    enum-known-n
-    stage-of-requires
-    add-t19
-    returns
-    returns-2
-    returns-3)
+    (tie.spec (λ c κs. search needs) (λ c. search needs) (λ c. search needs) (λ c κs. search needs) (λ c κs. search needs) (λ c. search needs) add-t17
+    (λ c. search needs) (λ c κs. search needs) add-t19 returns returns-2 returns-3)

@@ -9,18 +9,11 @@ use Rattle.sheet.proofs.record.read_setting.Tie as tie
 returns : tie.Need-returns
 returns c = sym (setting-cut _ (c .if1 .taken))
 
-shared-slice-read-if2 : tie.Need-shared-slice-read-if2
-shared-slice-read-if2 c = search needs
-
 returns-2 : tie.Need-returns-2
 returns-2 c = sym (setting-tag _ (omega arith) (c .if2 .taken))
-
-read-literal-requires : tie.Need-read-literal-requires
-read-literal-requires c κs = search needs
 
 returns-3 : tie.Need-returns-3
 returns-3 c = c .read-literal .ensures ∙ sym (setting-literal _ (omega arith) (c .before .if2 .left))
 
 pub read-setting-spec : {M : Type 1} → statement M
-read-setting-spec =
-    tie.close (tie.spec returns shared-slice-read-if2 returns-2 read-literal-requires returns-3)
+read-setting-spec = tie.close (tie.spec returns (λ c. search needs) returns-2 (λ c κs. search needs) returns-3)

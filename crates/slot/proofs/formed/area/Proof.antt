@@ -9,8 +9,5 @@ use Rattle.slot.proofs.formed.area.Tie as tie
 mul-result : tie.Need-mul-result
 mul-result c = omega (arith, mul-le-mul (let p : c .args .cols ≤ 255 = omega arith in p) (let q : c .args .rows ≤ 255 = omega arith in q))
 
-returns : tie.Need-returns
-returns c = search needs
-
 pub area-spec : {M : Type 1} → statement M
-area-spec = tie.close (tie.spec mul-result returns)
+area-spec = tie.close (tie.spec mul-result (λ c. search needs))

@@ -4,11 +4,8 @@ use borrow.Author.Needs.{needs}
 use Rattle.slot.proofs.formed.blank.Statement.{statement}
 use Rattle.slot.proofs.formed.blank.Tie as tie
 
-components-formed-requires : tie.Need-components-formed-requires
-components-formed-requires c κs = search needs
-
 returns : tie.Need-returns
 returns c = blank-formed _ _ (c .components-formed .ensures)
 
 pub blank-spec : {M : Type 1} → statement M
-blank-spec = tie.close (tie.spec components-formed-requires returns)
+blank-spec = tie.close (tie.spec (λ c κs. search needs) returns)

@@ -34,14 +34,4 @@ unfolding componentsFormed
 returns c = c .before .loop .inv .1 ∙ ap (each _) (let e : c .before .loop .i ≡ 16 = omega arith in e)
 
 pub components-formed-spec : {M : Type 1} → statement M
-components-formed-spec =
-    tie.close
-    (tie.spec
-    Inv-loop
-    μ-loop
-    loop-holds
-    component-formed-requires
-    add-i
-    loop-less
-    loop-again
-    returns)
+components-formed-spec = tie.close (tie.spec Inv-loop μ-loop loop-holds component-formed-requires add-i loop-less loop-again returns)

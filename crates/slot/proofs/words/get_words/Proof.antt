@@ -44,17 +44,4 @@ returns c = filled-all _ _ _ _ (c .before .loop .inv .0) (c .loop-test .left) (c
 
 pub get-words-spec : {M : Type 1} → statement M
 get-words-spec =
-    tie.close
-    (tie.spec
-    Inv-loop
-    μ-loop
-    loop-holds
-    mul-get64
-    add-get64
-    get64-requires
-    mul-xs
-    array-write-xs
-    add-i
-    loop-less
-    loop-again
-    returns)
+    tie.close (tie.spec Inv-loop μ-loop loop-holds mul-get64 add-get64 get64-requires mul-xs array-write-xs add-i loop-less loop-again returns)

@@ -59,17 +59,5 @@ returns c =
 pub put-words-spec : {M : Type 1} → statement M
 put-words-spec =
     tie.close
-    (tie.spec
-    Inv-loop
-    μ-loop
-    loop-holds
-    mul-put64
-    add-put64
-    mul-put64-2
-    array-read-put64
-    put64-requires
-    add-n
-    loop-less
-    loop-again
-    same-length
+    (tie.spec Inv-loop μ-loop loop-holds mul-put64 add-put64 mul-put64-2 array-read-put64 put64-requires add-n loop-less loop-again same-length
     returns)

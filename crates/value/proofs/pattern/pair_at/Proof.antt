@@ -12,29 +12,11 @@ use borrow.Author.Needs.{needs}
 use Rattle.value.proofs.pattern.pair_at.Statement.{statement}
 use Rattle.value.proofs.pattern.pair_at.Tie as tie
 
-i64-of-bits-requires : tie.Need-i64-of-bits-requires
-i64-of-bits-requires c κs = search needs
-
-i64-of-bits-requires-2 : tie.Need-i64-of-bits-requires-2
-i64-of-bits-requires-2 c κs = search needs
-
-f64-of-bits-requires : tie.Need-f64-of-bits-requires
-f64-of-bits-requires c κs = search needs
-
-f64-of-bits-requires-2 : tie.Need-f64-of-bits-requires-2
-f64-of-bits-requires-2 c κs = search needs
-
 cast-i32-of-bits : tie.Need-cast-i32-of-bits
 cast-i32-of-bits c = fits-at 3 w32 (c .before .pre .0) (c .match .keys4) refl
 
-i32-of-bits-requires : tie.Need-i32-of-bits-requires
-i32-of-bits-requires c κs = search needs
-
 cast-i32-of-bits-2 : tie.Need-cast-i32-of-bits-2
 cast-i32-of-bits-2 c = fits-at 3 w32 (c .before .before .pre .1) (c .before .match .keys4) refl
-
-i32-of-bits-requires-2 : tie.Need-i32-of-bits-requires-2
-i32-of-bits-requires-2 c κs = search needs
 
 cast-t15 : tie.Need-cast-t15
 cast-t15 c = fits-at 4 w32 (c .before .pre .0) (c .match .keys5) refl
@@ -45,26 +27,14 @@ cast-t16 c = fits-at 4 w32 (c .before .pre .1) (c .match .keys5) refl
 cast-f32-of-bits : tie.Need-cast-f32-of-bits
 cast-f32-of-bits c = fits-at 5 w32 (c .before .pre .0) (c .match .keys6) refl
 
-f32-of-bits-requires : tie.Need-f32-of-bits-requires
-f32-of-bits-requires c κs = search needs
-
 cast-f32-of-bits-2 : tie.Need-cast-f32-of-bits-2
 cast-f32-of-bits-2 c = fits-at 5 w32 (c .before .before .pre .1) (c .before .match .keys6) refl
-
-f32-of-bits-requires-2 : tie.Need-f32-of-bits-requires-2
-f32-of-bits-requires-2 c κs = search needs
 
 cast-kept-half : tie.Need-cast-kept-half
 cast-kept-half c = fits-at 6 w16 (c .before .pre .0) (c .match .keys7) refl
 
-kept-half-requires : tie.Need-kept-half-requires
-kept-half-requires c κs = search needs
-
 cast-kept-half-2 : tie.Need-cast-kept-half-2
 cast-kept-half-2 c = fits-at 6 w16 (c .before .before .pre .1) (c .before .match .keys7) refl
-
-kept-half-requires-2 : tie.Need-kept-half-requires-2
-kept-half-requires-2 c κs = search needs
 
 returns : tie.Need-returns
 returns c = rw (c .match .keys1)
@@ -99,30 +69,7 @@ returns-8 c = let a = c .before .args in ap (λ f. bothOf f (scalarAt (a .ty) (a
 pub pair-at-spec : {M : Type 1} → statement M
 pair-at-spec =
     tie.close
-    (tie.spec
-    i64-of-bits-requires
-    i64-of-bits-requires-2
-    f64-of-bits-requires
-    f64-of-bits-requires-2
-    cast-i32-of-bits
-    i32-of-bits-requires
-    cast-i32-of-bits-2
-    i32-of-bits-requires-2
-    cast-t15
-    cast-t16
-    cast-f32-of-bits
-    f32-of-bits-requires
-    cast-f32-of-bits-2
-    f32-of-bits-requires-2
-    cast-kept-half
-    kept-half-requires
-    cast-kept-half-2
-    kept-half-requires-2
-    returns
-    returns-2
-    returns-3
-    returns-4
-    returns-5
-    returns-6
-    returns-7
+    (tie.spec (λ c κs. search needs) (λ c κs. search needs) (λ c κs. search needs) (λ c κs. search needs) cast-i32-of-bits (λ c κs. search needs)
+    cast-i32-of-bits-2 (λ c κs. search needs) cast-t15 cast-t16 cast-f32-of-bits (λ c κs. search needs) cast-f32-of-bits-2 (λ c κs. search needs)
+    cast-kept-half (λ c κs. search needs) cast-kept-half-2 (λ c κs. search needs) returns returns-2 returns-3 returns-4 returns-5 returns-6 returns-7
     returns-8)

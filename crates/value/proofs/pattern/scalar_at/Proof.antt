@@ -11,17 +11,8 @@ use borrow.Author.Needs.{needs}
 use Rattle.value.proofs.pattern.scalar_at.Statement.{statement}
 use Rattle.value.proofs.pattern.scalar_at.Tie as tie
 
-i64-of-bits-requires : tie.Need-i64-of-bits-requires
-i64-of-bits-requires c κs = search needs
-
-f64-of-bits-requires : tie.Need-f64-of-bits-requires
-f64-of-bits-requires c κs = search needs
-
 cast-i32-of-bits : tie.Need-cast-i32-of-bits
 cast-i32-of-bits c = fits-at 3 w32 (c .before .pre) (c .match .keys4) refl
-
-i32-of-bits-requires : tie.Need-i32-of-bits-requires
-i32-of-bits-requires c κs = search needs
 
 cast-t13 : tie.Need-cast-t13
 cast-t13 c = fits-at 4 w32 (c .before .pre) (c .match .keys5) refl
@@ -29,14 +20,8 @@ cast-t13 c = fits-at 4 w32 (c .before .pre) (c .match .keys5) refl
 cast-f32-of-bits : tie.Need-cast-f32-of-bits
 cast-f32-of-bits c = fits-at 5 w32 (c .before .pre) (c .match .keys6) refl
 
-f32-of-bits-requires : tie.Need-f32-of-bits-requires
-f32-of-bits-requires c κs = search needs
-
 cast-kept-half : tie.Need-cast-kept-half
 cast-kept-half c = fits-at 6 w16 (c .before .pre) (c .match .keys7) refl
-
-kept-half-requires : tie.Need-kept-half-requires
-kept-half-requires c κs = search needs
 
 returns : tie.Need-returns
 returns c = rw (c .match .keys1)
@@ -65,21 +50,5 @@ returns-8 c = past-all (scalars (c .before .args .bits)) Nothing (c .before .arg
 pub scalar-at-spec : {M : Type 1} → statement M
 scalar-at-spec =
     tie.close
-    (tie.spec
-    i64-of-bits-requires
-    f64-of-bits-requires
-    cast-i32-of-bits
-    i32-of-bits-requires
-    cast-t13
-    cast-f32-of-bits
-    f32-of-bits-requires
-    cast-kept-half
-    kept-half-requires
-    returns
-    returns-2
-    returns-3
-    returns-4
-    returns-5
-    returns-6
-    returns-7
-    returns-8)
+    (tie.spec (λ c κs. search needs) (λ c κs. search needs) cast-i32-of-bits (λ c κs. search needs) cast-t13 cast-f32-of-bits (λ c κs. search needs)
+    cast-kept-half (λ c κs. search needs) returns returns-2 returns-3 returns-4 returns-5 returns-6 returns-7 returns-8)

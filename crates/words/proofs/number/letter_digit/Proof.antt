@@ -29,5 +29,4 @@ returns-5 c = (simp (le-ltb _ _ (c .before .before .before .if1 .left), le-ltb _
 pub letter-digit-spec : {M : Type 1} → statement M
 letter-digit-spec =
     tie.close
-    (tie.spec
-    returns (λ c. search needs) (λ c. search needs) returns-2 returns-3 (λ c. search needs) (λ c. search needs) returns-4 returns-5)
+    (tie.spec returns (λ c. search needs) (λ c. search needs) returns-2 returns-3 (λ c. search needs) (λ c. search needs) returns-4 returns-5)

@@ -62,6 +62,5 @@ returns-4 c =
 pub number-spec : {M : Type 1} → statement M
 number-spec =
     tie.close
-    (tie.spec
-    Inv-loop μ-loop returns loop-holds (λ c. omega arith) (λ c κs. tt) returns-2 (λ c. omega arith) (λ c. omega arith) returns-3 mul-n add-n
+    (tie.spec Inv-loop μ-loop returns loop-holds (λ c. omega arith) (λ c κs. tt) returns-2 (λ c. omega arith) (λ c. omega arith) returns-3 mul-n add-n
     (λ c. omega arith) (λ c. omega arith) loop-again returns-4)
