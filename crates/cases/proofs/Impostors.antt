@@ -11,7 +11,7 @@ use Rattle.slot.specs.Slot.{eights, numbers, bytesOf, saidBy, slot, each, compo
 use Rattle.booth.specs.Operand.{directAnswer, directBytes}
 use Rattle.fields.specs.Field.{nth, tab, sixteen}
 use Rattle.cases.specs.Record.{componentsIn, instanceIn, secondPlace, answerIn, outcomeIn, askedBy}
-use Rattle.cases.specs.Scalars.{unaryBy, scalarIn}
+use Rattle.cases.specs.Scalars.{unaryBy, scalarRead}
 use Rattle.cases.specs.Judged.{answeredSo, slotRight, conversionOf, roundingRight, same, shapeRight, resultSaid, scalarRight, operatorRight}
 
 -- number and detail are both asked: ShlOverflow by 32 is not one by 0, nor ShrOverflow by 32
@@ -57,5 +57,5 @@ negated status ty bits = 1 ∷ 1 ∷ 0 ∷ (0 ∷ 1 ∷ 1 ∷ 1 ∷ low 1 0 0 0)
 
 -- neither a refusal nor another type nor another pattern is taken for the value
 pub scalars-answers : map scalarRight (negated 0 0 0 ∷ negated 1 0 0 ∷ negated 0 3 0 ∷ negated 0 0 1 ∷ []) ≡ true ∷ false ∷ false ∷ false ∷ []
-unfolding unaryBy scalarIn resultSaid scalarRight
+unfolding unaryBy scalarRead resultSaid scalarRight
 scalars-answers = refl

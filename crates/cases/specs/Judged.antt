@@ -12,7 +12,7 @@ use Rattle.rounding.specs.Kind.{half, single, double, convert, ofInteger}
 use Rattle.rounding.specs.Bits.{toBits, ofBits, finite}
 use Rattle.slot.specs.Slot.{slot, bytesOf, wellFormed}
 use Rattle.booth.specs.Operand.{directAnswer, directBytes}
-use Rattle.cases.specs.Scalars.{unaryBy, binaryBy, scalarIn, packedResult, valueSaid}
+use Rattle.cases.specs.Scalars.{unaryBy, binaryBy, scalarRead, packedResult, valueSaid}
 use Rattle.cases.specs.Record.{part, numberAt, answerSaid, instanceIn, operandOfC, answerIn, outcomeIn, askedBy}
 
 -- a packed answer is what a record says
@@ -67,8 +67,8 @@ resultSaid x rest = answeredSo (packedResult x) rest && valueSaid x rest
 unfoldable pub scalarRight : List ℕ → Bool
 scalarRight c =
     pick (eqb (getD c 0 0) 1)
-    (resultSaid (unaryBy (getD c 1 0) (scalarIn (part c 3 12))) (part c 15 17))
-    (resultSaid (binaryBy (getD c 1 0) (stageOf (getD c 2 0)) (scalarIn (part c 3 12)) (scalarIn (part c 15 12))) (part c 27 17))
+    (resultSaid (unaryBy (getD c 1 0) (scalarRead (part c 3 12))) (part c 15 17))
+    (resultSaid (binaryBy (getD c 1 0) (stageOf (getD c 2 0)) (scalarRead (part c 3 12)) (scalarRead (part c 15 12))) (part c 27 17))
 
 -- the bytes that a slot has before it is lent
 abbrev pub untouched : List ℕ

@@ -22,15 +22,15 @@ use Rattle.booth.specs.Answer.{packedAnswer}
 use Rattle.cases.specs.Record.{numberAt}
 
 -- "1 `!`, 2 `-`, 3 `~`"; a list has no other code, and any other is taken as 3
-abbrev pub unaries : Scalar → List Result
-unaries s = notOf s ∷ negOf s ∷ []
+abbrev pub unaryResults : Scalar → List Result
+unaryResults s = notOf s ∷ negOf s ∷ []
 
 unfoldable pub unaryBy : ℕ → Scalar → Result
-unaryBy op s = getD (bitNotOf s ∷ unaries s) op (bitNotOf s)
+unaryBy op s = getD (bitNotOf s ∷ unaryResults s) op (bitNotOf s)
 
 -- "1 `||`, 2 `&&`, 3 to 7 `+ - * / %`, 8 to 13 `== != < <= > >=`, 14 to 16 `| & ^`, 17 `<<`, 18 `>>`"; any other is taken as 16
-abbrev pub binaries : ShaderStage → Scalar → Scalar → List Result
-binaries stage l r =
+abbrev pub binaryResults : ShaderStage → Scalar → Scalar → List Result
+binaryResults stage l r =
     orOf (pairOf l r) ∷ andOf (pairOf l r)
     ∷ addOf stage (commonOf l r) ∷ subOf stage (commonOf l r) ∷ mulOf stage (commonOf l r) ∷ divOf stage (commonOf l r) ∷ remOf stage (commonOf l r)
     ∷ eqOf (commonOf l r) ∷ neOf (commonOf l r) ∷ ltOf (commonOf l r) ∷ leOf (commonOf l r) ∷ gtOf (commonOf l r) ∷ geOf (commonOf l r)
@@ -38,15 +38,15 @@ binaries stage l r =
     ∷ shlOf stage l (convertTo 4 r) ∷ shrOf stage l (convertTo 4 r) ∷ []
 
 unfoldable pub binaryBy : ℕ → ShaderStage → Scalar → Scalar → Result
-binaryBy op stage l r = getD (bitXorOf (commonOf l r) ∷ binaries stage l r) op (bitXorOf (commonOf l r))
+binaryBy op stage l r = getD (bitXorOf (commonOf l r) ∷ binaryResults stage l r) op (bitXorOf (commonOf l r))
 
 -- the scalar that is an operand, of its type and its pattern; a list of scalars has no other operand, and any other is taken as false
 abbrev pub scalarFound : Found → Scalar
 scalarFound (F.Value s) = s
 scalarFound F.Nothing = bool false
 
-unfoldable pub scalarIn : List ℕ → Scalar
-scalarIn o = scalarFound (scalarOf (getD o 0 0) (numberAt o 4))
+unfoldable pub scalarRead : List ℕ → Scalar
+scalarRead o = scalarFound (scalarOf (getD o 0 0) (numberAt o 4))
 
 -- a result's number and detail, packed as C has them; a value has the number 0
 abbrev pub packedResult : Result → ℕ

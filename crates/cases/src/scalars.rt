@@ -13,7 +13,7 @@ use value::pattern::scalar_of;
 use value::type_of;
 ghost use mathlib.Core.Path.{_≡_};
 ghost use Rattle.value.specs.Answer.{answerOf};
-ghost use Rattle.cases.specs.Scalars.{unaryBy, binaryBy, scalarIn, packedResult, valueSaid};
+ghost use Rattle.cases.specs.Scalars.{unaryBy, binaryBy, scalarRead, packedResult, valueSaid};
 ghost use Rattle.cases.specs.Judged.{resultSaid, scalarRight};
 
 // An answer's number and detail, packed as C has them.
@@ -92,7 +92,7 @@ fn is_said(a: Answer, rest: &[u8]) -> bool
 
 // The scalar that is an operand; a list of scalars has no other.
 fn scalar_in(operand: &[u8]) -> Scalar
-    ensures { λ r. ⌜ r ≡ scalarIn (now (operand .entry)) ⌝ }
+    ensures { λ r. ⌜ r ≡ scalarRead (now (operand .entry)) ⌝ }
 {
     let bits = fields::number(fields::part(operand, 4, 8));
     let Found::Value(s) = scalar_of(fields::byte(operand, 0), bits) else {

@@ -5,7 +5,7 @@ use mathlib.Core.Bool.{Bool, true, false, not, _&&_, _||_, and-false, or-false, 
 use lib.Dec.{eqb}
 use borrow.Author.Tests.{eqb-true}
 use Rattle.types.specs.declared.CommonType.the-variants.{Code, Nothing}
-use Rattle.types.specs.Types.{signed, knownOf, abstractOf, classOf, floatOf, integerOf, goesTo, commonType}
+use Rattle.types.specs.Types.{signedInts, knownOf, abstractOf, classOf, floatOf, integerOf, goesTo, commonType}
 use Rattle.types.proofs.Choice.{picked, passed, both}
 use Rattle.types.proofs.Rows.{by-code}
 
@@ -27,17 +27,17 @@ module _ (a b : ℕ) {g : Bool} (e : g ≡ goesTo b a) where
 
 -- ---- known types go to known ones, and floats to floats
 module _ (a b : ℕ) (e : goesTo a b ≡ true) where
-  parts : ((abstractOf a && not (eqb a b)) ≡ true) × ((floatOf b || (eqb (classOf a) signed && integerOf b)) ≡ true)
+  parts : ((abstractOf a && not (eqb a b)) ≡ true) × ((floatOf b || (eqb (classOf a) signedInts && integerOf b)) ≡ true)
   parts = both (abstractOf a && not (eqb a b)) _ e
 
 pub goes-known : (a b : ℕ) → goesTo a b ≡ true → knownOf b ≡ true
 goes-known a b e =
-    by-code (λ b. (floatOf b || (eqb (classOf a) signed && integerOf b)) ≡ true → knownOf b ≡ true)
+    by-code (λ b. (floatOf b || (eqb (classOf a) signedInts && integerOf b)) ≡ true → knownOf b ≡ true)
     (λ h. refl) (λ h. refl) (λ h. refl) (λ h. refl) (λ h. refl) (λ h. refl) (λ h. refl)
-    (λ n h. absurd (true≢false (sym h ∙ and-false (eqb (classOf a) signed))))
+    (λ n h. absurd (true≢false (sym h ∙ and-false (eqb (classOf a) signedInts))))
     b (parts a b e .1)
 
 pub float-goes : (a b : ℕ) → goesTo a b ≡ true → floatOf a ≡ true → floatOf b ≡ true
 float-goes a b e f =
     let c : classOf a ≡ 4 = eqb-true _ _ f in
-    sym (or-false (floatOf b)) ∙ ap (λ k. floatOf b || (eqb k signed && integerOf b)) (sym c) ∙ parts a b e .1
+    sym (or-false (floatOf b)) ∙ ap (λ k. floatOf b || (eqb k signedInts && integerOf b)) (sym c) ∙ parts a b e .1

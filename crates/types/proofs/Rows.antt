@@ -5,7 +5,7 @@ use mathlib.Core.Bool.{false, _||_}
 use native.Mathlib.Omega.{arith}
 use lib.Dec.{eqb}
 use borrow.Author.Tests.{ne-eqb}
-use Rattle.types.specs.Types.{truth, signed, unsigned, classOf, widthOf, mostOf, floatOf}
+use Rattle.types.specs.Types.{bools, signedInts, unsignedInts, classOf, widthOf, mostOf, floatOf}
 
 -- what holds of each type's code and of every other number holds of all
 pub by-code : (P : ℕ → Type 0) → P 0 → P 1 → P 2 → P 3 → P 4 → P 5 → P 6 → ((n : ℕ) → P (suc (suc (suc (suc (suc (suc (suc n)))))))) → (ty : ℕ) → P ty
@@ -31,13 +31,13 @@ float-codes =
     by-code (λ ty. ((eqb ty 2 || eqb ty 5) || eqb ty 6) ≡ floatOf ty) refl refl refl refl refl refl refl
     (λ n. rw (other n 2 (omega arith), other n 5 (omega arith), other n 6 (omega arith)))
 
-pub signed-codes : (ty : ℕ) → (eqb ty 1 || eqb ty 3) ≡ eqb (classOf ty) signed
+pub signed-codes : (ty : ℕ) → (eqb ty 1 || eqb ty 3) ≡ eqb (classOf ty) signedInts
 signed-codes =
-    by-code (λ ty. (eqb ty 1 || eqb ty 3) ≡ eqb (classOf ty) signed) refl refl refl refl refl refl refl
+    by-code (λ ty. (eqb ty 1 || eqb ty 3) ≡ eqb (classOf ty) signedInts) refl refl refl refl refl refl refl
     (λ n. rw (other n 1 (omega arith), other n 3 (omega arith)))
 
-pub truth-code : (ty : ℕ) → eqb ty 0 ≡ eqb (classOf ty) truth
-truth-code = by-code (λ ty. eqb ty 0 ≡ eqb (classOf ty) truth) refl refl refl refl refl refl refl (λ n. other n 0 (omega arith))
+pub truth-code : (ty : ℕ) → eqb ty 0 ≡ eqb (classOf ty) bools
+truth-code = by-code (λ ty. eqb ty 0 ≡ eqb (classOf ty) bools) refl refl refl refl refl refl refl (λ n. other n 0 (omega arith))
 
-pub unsigned-code : (ty : ℕ) → eqb ty 4 ≡ eqb (classOf ty) unsigned
-unsigned-code = by-code (λ ty. eqb ty 4 ≡ eqb (classOf ty) unsigned) refl refl refl refl refl refl refl (λ n. other n 4 (omega arith))
+pub unsigned-code : (ty : ℕ) → eqb ty 4 ≡ eqb (classOf ty) unsignedInts
+unsigned-code = by-code (λ ty. eqb ty 4 ≡ eqb (classOf ty) unsignedInts) refl refl refl refl refl refl refl (λ n. other n 4 (omega arith))

@@ -9,21 +9,21 @@ use Rattle.types.specs.declared.Row.{Row}
 use Rattle.types.specs.declared.CommonType.{CommonType}
 use Rattle.types.specs.declared.CommonType.the-variants.{Code, Nothing}
 
--- classes: of truth values, signed integers, unsigned integers, floats; none is that of a code that names no type
-abbrev pub none : ℕ
-none = 0
+-- classes: of Bool, of signed integers, of unsigned integers, of floats, and of a code that names no type
+abbrev pub noType : ℕ
+noType = 0
 
-abbrev pub truth : ℕ
-truth = 1
+abbrev pub bools : ℕ
+bools = 1
 
-abbrev pub signed : ℕ
-signed = 2
+abbrev pub signedInts : ℕ
+signedInts = 2
 
-abbrev pub unsigned : ℕ
-unsigned = 3
+abbrev pub unsignedInts : ℕ
+unsignedInts = 3
 
-abbrev pub float : ℕ
-float = 4
+abbrev pub floats : ℕ
+floats = 4
 
 -- a class, the bits of a pattern and so the largest pattern, and whether the type is concrete: known and not abstract
 abbrev pub row : ℕ → ℕ → Bool → Row
@@ -32,11 +32,11 @@ row c w a = record { class = c; width = w; most = 2 ^ w - 1; concrete = a }
 -- "Types: 0 Bool, 1 AbstractInt (64-bit signed), 2 AbstractFloat (F64), 3 I32, 4 U32, 5 F32, 6 F16"
 abbrev pub rows : List Row
 rows =
-    row truth 1 true ∷ row signed 64 false ∷ row float 64 false ∷ row signed 32 true ∷ row unsigned 32 true ∷ row float 32 true
-    ∷ row float 16 true ∷ []
+    row bools 1 true ∷ row signedInts 64 false ∷ row floats 64 false ∷ row signedInts 32 true ∷ row unsignedInts 32 true ∷ row floats 32 true
+    ∷ row floats 16 true ∷ []
 
 abbrev pub rowOf : ℕ → Row
-rowOf ty = getD rows ty (row none 0 false)
+rowOf ty = getD rows ty (row noType 0 false)
 
 -- a type's code
 abbrev pub knownOf : ℕ → Bool
@@ -54,10 +54,10 @@ mostOf ty = rowOf ty .most
 
 -- the types that have matrices
 abbrev pub floatOf : ℕ → Bool
-floatOf ty = eqb (classOf ty) float
+floatOf ty = eqb (classOf ty) floats
 
 abbrev pub integerOf : ℕ → Bool
-integerOf ty = eqb (classOf ty) signed || eqb (classOf ty) unsigned
+integerOf ty = eqb (classOf ty) signedInts || eqb (classOf ty) unsignedInts
 
 -- what a setting may have: "type 0, 3, 4, 5 or 6"
 abbrev pub concreteOf : ℕ → Bool
@@ -68,7 +68,7 @@ abstractOf ty = knownOf ty && not (concreteOf ty)
 
 -- "AbstractInt goes to any other but Bool, AbstractFloat to F32 or F16": both to the other floats, AbstractInt to the other integers
 abbrev pub goesTo : ℕ → ℕ → Bool
-goesTo a b = abstractOf a && not (eqb a b) && (floatOf b || (eqb (classOf a) signed && integerOf b))
+goesTo a b = abstractOf a && not (eqb a b) && (floatOf b || (eqb (classOf a) signedInts && integerOf b))
 
 -- "Common type: equal types; else" the one that the other goes to, "otherwise none"
 unfoldable pub commonType : ℕ → ℕ → CommonType
@@ -77,14 +77,14 @@ commonType a b = pick ((knownOf a && eqb a b) || goesTo b a) (Code a) (pick (goe
 -- the right to a binary operator: Bool has `|| && == != | &`, integers all from `+` on, floats those from `+` to `>=`
 abbrev pub rightOf : ℕ → ℕ → Bool
 rightOf op ty =
-    (eqb (classOf ty) truth && ((leb 1 op && leb op 2) || (leb 8 op && leb op 9) || (leb 14 op && leb op 15)))
+    (eqb (classOf ty) bools && ((leb 1 op && leb op 2) || (leb 8 op && leb op 9) || (leb 14 op && leb op 15)))
     || (integerOf ty && leb 3 op && leb op 18)
     || (floatOf ty && leb 3 op && leb op 13)
 
 -- "`!` on Bool, `~` on integers", negation on all but U32 and Bool
 abbrev pub unaryRightOf : ℕ → ℕ → Bool
 unaryRightOf op ty =
-    (eqb op 1 && eqb (classOf ty) truth) || (eqb op 2 && (eqb (classOf ty) signed || floatOf ty)) || (eqb op 3 && integerOf ty)
+    (eqb op 1 && eqb (classOf ty) bools) || (eqb op 2 && (eqb (classOf ty) signedInts || floatOf ty)) || (eqb op 3 && integerOf ty)
 
 -- comparisons give Bool, other operators the type of their operands
 abbrev pub resultType : ℕ → ℕ → ℕ

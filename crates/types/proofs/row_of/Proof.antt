@@ -1,7 +1,7 @@
 -- `types::row_of` meets its contract. Assumes nothing.
 use mathlib.Core.Bool.{false}
 use mathlib.Core.Path.{_∙_}
-use Rattle.types.specs.Types.{none, row, rows}
+use Rattle.types.specs.Types.{noType, row, rows}
 use Rattle.types.proofs.Choice.{past-all}
 use borrow.Author.Needs.{needs}
 use Rattle.types.proofs.row_of.Statement.{statement}
@@ -29,7 +29,7 @@ returns-7 : tie.Need-returns-7
 returns-7 c = rw (c .before .match .keys7) (c .row-with7 .ensures)
 
 returns-8 : tie.Need-returns-8
-returns-8 c = c .row-with8 .ensures ∙ past-all rows (row none 0 false) (c .before .before .args .ty) (c .before .match .rest)
+returns-8 c = c .row-with8 .ensures ∙ past-all rows (row noType 0 false) (c .before .before .args .ty) (c .before .match .rest)
 
 pub row-of-spec : {M : Type 1} → statement M
 row-of-spec =
