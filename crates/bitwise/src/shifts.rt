@@ -13,6 +13,9 @@ ghost use Rattle.value.specs.Answer.{answerOf};
 ghost use Rattle.conversion.specs.Convert.{convertTo};
 ghost use Rattle.bitwise.specs.Shift.{byCount, shiftBy, shlExact, shlOf, shlWrapped, shrExact, shrOf, shrReduced, signedShl, unsignedShl, wholeShl};
 
+// The width of I32 and of U32.
+const WIDTH: u32 = 32;
+
 // The answer of an AbstractInt's left shift by n.
 fn whole_shl(w: Whole, n: u32) -> Answer
     ensures { λ a. ⌜ answerOf a ≡ wholeShl w n ⌝ }
@@ -69,20 +72,20 @@ fn shl_wrapped(l: Scalar, n: u32) -> Answer
     }
 }
 
-// Right: the floor; Const and Override refuse a 32-bit count above 31, and Exec takes it modulo 32.
+// Right: the floor; Const and Override refuse a count of the width or more, and Exec takes it modulo the width; AbstractInt takes any.
 fn shr_floor(strict: bool, l: Scalar, n: u32) -> Answer
     ensures { λ a. ⌜ answerOf a ≡ pick strict (shrExact l n) (shrReduced l n) ⌝ }
 {
     match l {
         Scalar::AbstractInt(x) => { Answer::Value(Scalar::AbstractInt(shift::shr_i64(x, n))) }
         Scalar::I32(x) => {
-            if strict & (31 < n) {
+            if strict & (WIDTH <= n) {
                 return Answer::ShrOverflow(n);
             }
             Answer::Value(Scalar::I32(shift::shr_i32(x, n)))
         }
         Scalar::U32(x) => {
-            if strict & (31 < n) {
+            if strict & (WIDTH <= n) {
                 return Answer::ShrOverflow(n);
             }
             Answer::Value(Scalar::U32(shift::shr_u32(x, n)))

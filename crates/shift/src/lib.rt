@@ -9,6 +9,11 @@ ghost use Rattle.integer.specs.Wrap.{wrapS};
 ghost use Rattle.integer.specs.Range.{pick, wholeOf};
 ghost use Rattle.shift.specs.Shift.{shlOver, shlOverU, shlWrapping, shlWrappingU, shrModulo, shrModuloU};
 
+// The width of I32 and of U32, and that of AbstractInt.
+const WIDTH: u32 = 32;
+
+const WIDE: u32 = 64;
+
 // An exact result, or that it is outside the 32-bit signed range.
 pub enum Signed {
     Value(i32),
@@ -21,24 +26,24 @@ pub enum Unsigned {
     Over,
 }
 
-// x times 2^n, where n is below 32 and the product in the type.
+// x times 2^n, where n is below the width and the product in the type.
 pub fn shl_i32(x: i32, n: u32) -> Signed
     ensures { λ r. ⌜ r ≡ pick (shlOver w32 x n) Signed.Over (Signed.Value (x *ℤ pos (2 ^ n))) ⌝ }
 {
-    if 31 < n {
+    if WIDTH <= n {
         return Signed::Over;
     }
-    if mag_i32(x) < 1 << (31 - n) {
+    if mag_i32(x) < 1 << (WIDTH - 1 - n) {
         return Signed::Value(x << n);
     }
     Signed::Over
 }
 
-// x times 2^n, where n is below 32 and the product in the type.
+// x times 2^n, where n is below the width and the product in the type.
 pub fn shl_u32(x: u32, n: u32) -> Unsigned
     ensures { λ r. ⌜ r ≡ pick (shlOverU w32 x n) Unsigned.Over (Unsigned.Value (x * 2 ^ n)) ⌝ }
 {
-    if 31 < n {
+    if WIDTH <= n {
         return Unsigned::Over;
     }
     if u32::MAX >> n < x {
@@ -54,58 +59,58 @@ pub fn shl_i64(x: i64, n: u32) -> Whole
     if x == 0 {
         return Whole::Value(0);
     }
-    if 63 < n {
+    if WIDE <= n {
         return Whole::Over;
     }
-    if mag_i64(x) < 1 << (63 - n) {
+    if mag_i64(x) < 1 << (WIDE - 1 - n) {
         return Whole::Value(x << n);
     }
     Whole::Over
 }
 
-// x times 2^n, n taken modulo 32, wrapping around.
+// x times 2^n, n taken modulo the width, wrapping around.
 pub fn shl_wrapping_i32(x: i32, n: u32) -> i32
     ensures { λ r. ⌜ r ≡ shlWrapping w32 x n ⌝ }
 {
-    x << (n % 32)
+    x << (n % WIDTH)
 }
 
-// x times 2^n, n taken modulo 32, wrapping around.
+// x times 2^n, n taken modulo the width, wrapping around.
 pub fn shl_wrapping_u32(x: u32, n: u32) -> u32
     ensures { λ r. ⌜ r ≡ shlWrappingU w32 x n ⌝ }
 {
-    x << (n % 32)
+    x << (n % WIDTH)
 }
 
 // x times 2^n for any n, wrapping around.
 pub fn shl_wrapping_i64(x: i64, n: u32) -> i64
     ensures { λ r. ⌜ r ≡ wrapS w64 (x *ℤ pos (2 ^ n)) ⌝ }
 {
-    if n < 64 {
+    if n < WIDE {
         return x << n;
     }
     0
 }
 
-// The floor of x over 2^n, n taken modulo 32.
+// The floor of x over 2^n, n taken modulo the width.
 pub fn shr_i32(x: i32, n: u32) -> i32
     ensures { λ r. ⌜ r ≡ shrModulo w32 x n ⌝ }
 {
-    x >> (n % 32)
+    x >> (n % WIDTH)
 }
 
-// The floor of x over 2^n, n taken modulo 32.
+// The floor of x over 2^n, n taken modulo the width.
 pub fn shr_u32(x: u32, n: u32) -> u32
     ensures { λ r. ⌜ r ≡ shrModuloU w32 x n ⌝ }
 {
-    x >> (n % 32)
+    x >> (n % WIDTH)
 }
 
 // The floor of x over 2^n, for any n.
 pub fn shr_i64(x: i64, n: u32) -> i64
     ensures { λ r. ⌜ r ≡ shrZ x (2 ^ n) ⌝ }
 {
-    if n < 64 {
+    if n < WIDE {
         return x >> n;
     }
     if x < 0 { -1 } else { 0 }

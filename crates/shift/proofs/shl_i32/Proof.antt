@@ -24,4 +24,4 @@ returns-3 c =
     shl-refused w32 (call .args .x) (call .args .n) _ (call .fits .x) (omega arith) (c .before .mag-i32 .ensures) Over Value (c .if2 .left)
 
 pub shl-i32-spec : {M : Type 1} → statement M
-shl-i32-spec = tie.close (tie.spec returns (λ c κs. search needs) (λ c. search needs) (λ c. search needs) (λ c. search needs) returns-2 returns-3)
+shl-i32-spec = tie.close (tie.spec returns (λ c κs. search needs) (λ c. search needs) (λ c. search needs) (λ c. search needs) (λ c. search needs) (λ c. search needs) returns-2 returns-3)
