@@ -65,7 +65,7 @@ module _ (c : List ℕ) (k op : ℕ) (ek : k ≡ getD c 0 0) (eo : op ≡ getD c
   unfolding scalarRight
   unary-right h ex ew = rw (← ek, eq-eqb k 1 h, ← eo, ← ep, ← el, ← ex, ← ew) e
 
-  pub binary-right : (k ≡ 1 → ⊥) → (q : List ℕ) → q ≡ part c 15 12 → (r : Scalar) → r ≡ scalarRead q → (n : ℕ) → n ≡ getD c 2 0 → (stage : ShaderStage) → stage ≡ stageOf n
-      → x ≡ binaryBy op stage l r → w ≡ part c 27 17 → t ≡ scalarRight c
+  pub binary-right : (k ≡ 1 → ⊥) → (q : List ℕ) → q ≡ part c 15 12 → (r : Scalar) → r ≡ scalarRead q
+      → (n : ℕ) → n ≡ getD c 2 0 → (stage : ShaderStage) → stage ≡ stageOf n → x ≡ binaryBy op stage l r → w ≡ part c 27 17 → t ≡ scalarRight c
   unfolding scalarRight
   binary-right h q eq r er n en stage es ex ew = rw (← ek, ne-eqb k 1 h, ← eo, ← ep, ← el, ← eq, ← er, ← en, ← es, ← ex, ← ew) e
