@@ -27,7 +27,8 @@ extern "C" {
  * The slot must have BOOTH_SLOT bytes; it is written only where the number is 0.
  * Operators of wgsl_unary: 1 !  2 -  3 ~
  * Operators of wgsl_binary: 1 ||  2 &&  3 +  4 -  5 *  6 /  7 %  8 ==  9 !=  10 <  11 <=  12 >  13 >=  14 |  15 &  16 ^  17 <<  18 >>
- * Stages: 0 Const, 1 Override, 2 Exec. */
+ * Stages: 0 Const, 1 Override, 2 Exec.
+ * Judged in this order: operator (25), stage (23), operands, left first (26), size of the slot (30), then what the operator itself refuses. */
 uint64_t wgsl_unary(uint8_t op, uint8_t stage,
                     const uint8_t *operand, size_t operand_len,
                     uint8_t *slot, size_t slot_len);

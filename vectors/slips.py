@@ -5,6 +5,7 @@ the slip takes out (-) and puts in (+). compare.py is run over the list in a
 copy with the slip. A slip that no record shows is a gap in the lists.
 """
 
+import concurrent.futures
 import os
 import re
 import shutil
@@ -52,25 +53,28 @@ def copy_with(slip, folder):
 
 
 def caught(slip):
-    """How many records of the list differ under the slip."""
+    """How many records of the list differ under the slip; 0 where the comparison stops, for then no record shows it."""
     with tempfile.TemporaryDirectory() as folder:
         copy_with(slip, folder)
         command = [sys.executable, os.path.join(folder, "compare.py"), os.path.join(HERE, "data", slip.list)]
         run = subprocess.run(command, capture_output=True, text=True)
     found = re.search(r"(\d+) differ\n$", run.stdout)
-    return int(found.group(1)) if found else "stops"
+    return int(found.group(1)) if found else 0
 
 
 def main(words):
     """Runs all slips, or those whose names hold one of the words."""
     chosen = [slip for slip in read_slips() if not words or any(word in slip.name for word in words)]
+    absent = sorted({slip.list for slip in chosen if not os.path.exists(os.path.join(HERE, "data", slip.list))})
+    if absent:
+        sys.exit("slips.py: make.py has not made %s" % " ".join(absent))
     missed = 0
-    for slip in chosen:
-        count = caught(slip)
-        missed += count == 0
-        print("%-50s %-10s %6s" % (slip.name, slip.list, count), flush=True)
+    with concurrent.futures.ThreadPoolExecutor(os.cpu_count()) as workers:
+        for slip, count in zip(chosen, workers.map(caught, chosen)):
+            missed += count == 0
+            print("%-50s %-10s %6d" % (slip.name, slip.list, count), flush=True)
     print("%d slips, %d missed" % (len(chosen), missed))
-    return 1 if missed else 0
+    return 1 if missed or not chosen else 0
 
 
 if __name__ == "__main__":

@@ -75,15 +75,24 @@ fn number(answer: u64) -> u64 {
 #[test]
 fn the_order_of_the_boundary() {
     let mut slot = [0xaa; SLOT];
-    assert_eq!(number(raw_binary(0, 9, &[], &[], &mut slot[..135])), 30);
-    assert_eq!(number(raw_binary(0, 9, &[], &[], &mut [0xaa; 137])), 30);
+    assert_eq!(number(raw_binary(0, 9, &[], &[], &mut slot[..135])), 25);
+    assert_eq!(number(raw_binary(3, 9, &[], &[], &mut slot[..135])), 23);
+    assert_eq!(number(raw_binary(3, 0, &[], &ONE, &mut slot[..135])), 26);
+    assert_eq!(number(raw_binary(3, 0, &ONE, &[], &mut [0xaa; 137])), 26);
+    assert_eq!(number(raw_binary(3, 0, &ONE, &ONE, &mut slot[..135])), 30);
+    assert_eq!(number(raw_binary(1, 0, &ONE, &ONE, &mut [0xaa; 137])), 30);
+    assert_eq!(number(raw_binary(1, 0, &ONE, &ONE, &mut slot)), 2);
     assert_eq!(number(raw_binary(0, 9, &[], &[], &mut slot)), 25);
     assert_eq!(number(raw_binary(19, 3, &[], &[], &mut slot)), 25);
     assert_eq!(number(raw_binary(3, 3, &[], &[], &mut slot)), 23);
     assert_eq!(number(raw_binary(3, 0, &[], &ONE, &mut slot)), 26);
     assert_eq!(number(raw_binary(3, 0, &ONE, &ONE[..10], &mut slot)), 26);
     assert_eq!(number(raw_binary(3, 0, &ONE, &[&ONE[..], &[0]].concat(), &mut slot)), 26);
+    assert_eq!(number(raw_unary(4, 0, &ONE, &mut [])), 25);
+    assert_eq!(number(raw_unary(3, 3, &ONE, &mut [])), 23);
+    assert_eq!(number(raw_unary(3, 0, &ONE[..10], &mut [])), 26);
     assert_eq!(number(raw_unary(3, 0, &ONE, &mut [])), 30);
+    assert_eq!(number(raw_unary(1, 0, &ONE, &mut [])), 30);
     assert_eq!(number(raw_unary(4, 0, &ONE, &mut slot)), 25);
     assert_eq!(number(raw_unary(3, 3, &ONE, &mut slot)), 23);
     assert_eq!(number(raw_unary(3, 2, &ONE[..2], &mut slot)), 26);

@@ -31,6 +31,7 @@ use Rattle.value.proofs.Scalar as scalar
 use Rattle.types.proofs.Choice.{Misses}
 use Rattle.value.proofs.Called.{parts}
 use Rattle.value.specs.Answer.{Result, value, answerOf, unary, binary}
+use Rattle.value.specs.Scalar.{keptScalar}
 use Rattle.arithmetic.specs.Arithmetic.{addOf, arithmeticBy, divOf, finiteOr, floatBy, halfBits, inExec, mulOf, negOf, noDiv, notFinite, ofFive, remOf, settled, subOf, wholeOr}
 
 -- one of five, as a match on the code finds it
@@ -112,11 +113,11 @@ module _ (op : ℕ) (stage : ShaderStage) {a : Result} where
       → v ≡ floatBy op single x y → a ≡ arithmeticBy op stage (P.F32 x y)
   single-arm x y e h = float-arm stage stage (F32 x) F32 single x y op e h
 
-  pub halves-arm : (x y : ℕ) {b : ℕ} → a ≡ finiteOr (F16 b) (notFinite op stage stage (F16 x) (F16 b))
+  pub halves-arm : (x y : ℕ) {b : ℕ} → a ≡ finiteOr (F16 b) (notFinite op stage stage (keptScalar (F16 x)) (F16 b))
       → b ≡ halfBits (floatBy op) x y → a ≡ arithmeticBy op stage (P.F16 x y)
   halves-arm x y e h =
-      float-arm stage stage (F16 x) (λ v. F16 (toBits half (convert half v))) single (ofBits half x) (ofBits half y) op
-      (e ∙ ap (λ b. finiteOr (F16 b) (notFinite op stage stage (F16 x) (F16 b))) h) refl
+      float-arm stage stage (keptScalar (F16 x)) (λ v. F16 (toBits half (convert half v))) single (ofBits half x) (ofBits half y) op
+      (e ∙ ap (λ b. finiteOr (F16 b) (notFinite op stage stage (keptScalar (F16 x)) (F16 b))) h) refl
 
 -- `+ - *` of AbstractInt
 pub whole-arm : (z : ℤ → ℤ → ℤ) (why : Result) {a : Result} {w : Whole} {x y : ℤ} → SFits w64 x → SFits w64 y

@@ -2,4 +2,5 @@
 pub mod Arms
 pub mod Impostors
 pub mod Negated
+pub mod Rounded
 pub mod Single

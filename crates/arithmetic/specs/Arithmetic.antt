@@ -24,7 +24,7 @@ use Rattle.value.specs.declared.Answer.the-variants.{AddOverflow, SubOverflow, 
 use Rattle.value.specs.declared.Pair.{Pair}
 use Rattle.value.specs.declared.Pair.the-variants as P
 use Rattle.value.specs.Answer.{Result, value, answerOf, unary, binary, strict}
-use Rattle.value.specs.Scalar.{finiteOf}
+use Rattle.value.specs.Scalar.{finiteOf, keptScalar}
 
 -- in Const and Override a refusal, in Exec the scalar
 abbrev pub inExec : ShaderStage → Result → Scalar → Result
@@ -83,7 +83,7 @@ mulOf stage p = arithmetic _*ℤ_ mul (answerOf MulOverflow) stage p
 abbrev pub noDiv : ShaderStage → Scalar → Result
 noDiv stage left = inExec stage (answerOf DivByZero) left
 
--- "`/` truncates. Zero divisor, minimum by -1, or a float result that is not finite"
+-- "`/` truncates. Zero divisor, minimum by -1, or a float result that is not finite"; an F16 that is handed back has its NaN as it is kept
 abbrev pub divOf : ShaderStage → Pair → Result
 divOf stage (P.Bool x y) = binary
 divOf stage (P.AbstractInt x y) = pick (noQuotient w64 x y) (noDiv stage (AbstractInt x)) (value (AbstractInt (quotZ x y)))
@@ -91,7 +91,7 @@ divOf stage (P.AbstractFloat x y) = finiteOr (AbstractFloat (div double x y)) (n
 divOf stage (P.I32 x y) = pick (noQuotient w32 x y) (noDiv stage (I32 x)) (value (I32 (quotZ x y)))
 divOf stage (P.U32 x y) = pick (eqb y 0) (noDiv stage (U32 x)) (value (U32 (x / y)))
 divOf stage (P.F32 x y) = finiteOr (F32 (div single x y)) (noDiv stage (F32 x))
-divOf stage (P.F16 x y) = finiteOr (halfOf div x y) (noDiv stage (F16 x))
+divOf stage (P.F16 x y) = finiteOr (halfOf div x y) (noDiv stage (keptScalar (F16 x)))
 divOf stage P.None = binary
 
 -- "RemZeroDiv in Const and Override, 0 in Exec"

@@ -13,6 +13,7 @@ use value::Answer;
 use value::Pair;
 use value::Scalar;
 use value::ShaderStage;
+use value::pattern::kept_scalar;
 ghost use mathlib.Core.Path.{_≡_};
 ghost use lib.Ieee.{neg};
 ghost use Rattle.rounding.specs.Kind.{double, half, single};
@@ -198,7 +199,7 @@ fn single_answer(op: u8, stage: ShaderStage, x: f32, y: f32) -> Answer
     not_finite(op, stage, stage, Scalar::F32(x), Scalar::F32(v))
 }
 
-// The answer of two F16s.
+// The answer of two F16s; the left operand is handed back with a NaN as it is kept.
 fn half_answer(op: u8, stage: ShaderStage, x: u16, y: u16) -> Answer
     ensures { λ a. ⌜ answerOf a ≡ arithmeticBy op stage (Pair.F16 x y) ⌝ }
 {
@@ -206,7 +207,8 @@ fn half_answer(op: u8, stage: ShaderStage, x: u16, y: u16) -> Answer
     if finite_half(v) {
         return Answer::Value(Scalar::F16(v));
     }
-    not_finite(op, stage, stage, Scalar::F16(x), Scalar::F16(v))
+    let left = kept_scalar(Scalar::F16(x));
+    not_finite(op, stage, stage, left, Scalar::F16(v))
 }
 
 // `+ - * / %`, by their codes 3 to 7, on two operands of one type; every other code is taken as 7.

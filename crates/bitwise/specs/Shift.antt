@@ -22,13 +22,14 @@ use Rattle.value.specs.declared.Found.{Found}
 use Rattle.value.specs.declared.Found.the-variants.{Value, Nothing}
 use Rattle.bitwise.specs.Bits.{onInteger}
 use Rattle.value.specs.Answer.{Result, value, refused, refusal, binary, strict}
+use Rattle.value.specs.Refusals as No
 
 -- 9 ShlOverflow and 10 ShrOverflow, with the full count
 abbrev pub shlOverflow : ℕ → Result
-shlOverflow n = refused (refusal 9 n)
+shlOverflow n = refused (refusal No.ShlOverflow n)
 
 abbrev pub shrOverflow : ℕ → Result
-shrOverflow n = refused (refusal 10 n)
+shrOverflow n = refused (refusal No.ShrOverflow n)
 
 -- "Left in Const and Override: ShlOverflow exactly if a 32-bit operand meets a count above 31 or l times 2^count is outside its type;
 -- otherwise that product." The rule of a type of width w, whose scalars `make` makes

@@ -1,12 +1,10 @@
 -- Wrong programs that the contracts of the exported functions exclude, each at a witness. Assumes nothing.
 use mathlib.Core.Path.{_≡_, refl}
-use mathlib.Core.Bool.{true}
 use mathlib.Core.List.{List, [], _∷_, map}
 use Prim.Native.Nat.{ℕ}
-use lib.Dec.{eqb}
 use lib.ListN.{replicate}
-use Rattle.operand.specs.declared.Outcome.{Outcome}
-use Rattle.operand.specs.Outcome.{refusedWith}
+use Rattle.operand.specs.declared.Instance.{Instance}
+use Rattle.operand.specs.Outcome.{refusedWith, valueOf}
 use Rattle.dispatch.specs.Meaning.{unaryMeaning, binaryMeaning}
 use Rattle.sheet.specs.Read.{must, thenRead}
 use Rattle.sheet.specs.Record.{readHead, readRecord}
@@ -14,7 +12,7 @@ use Rattle.sheet.specs.Sheet.{readRecords, readSheet, checkedOf}
 use Rattle.fold.specs.Fresh.{entryAt, foldedOf, freshAnswer}
 use Rattle.fold.specs.Change.{isSetting, faultOf, changeAnswer}
 use Rattle.booth.specs.Answer.{packedAnswer, packedFold}
-use Rattle.booth.specs.Operand.{operandIn, directAnswer, directBytes}
+use Rattle.booth.specs.Operand.{operandIn, intoSlot, directAnswer, directBytes}
 
 -- not every sheet is refused, and the place of a sheet that is cut short is not lost
 pub check-answers : map (λ (s : List ℕ). packedFold (foldedOf (checkedOf (readSheet s)))) ([] ∷ (213 ∷ []) ∷ []) ≡ 0 ∷ packedAnswer 22 1 ∷ []
@@ -31,14 +29,20 @@ pub change-answer : packedFold (changeAnswer (readSheet []) [] 0 4 5) ≡ packed
 unfolding must readRecords readSheet entryAt isSetting faultOf changeAnswer
 change-answer = refl
 
--- a slot of 135 or 137 bytes is not taken, whatever the outcome
-pub slot-sizes : (o : Outcome) → map (λ (n : ℕ). eqb (directAnswer (replicate n 7) o) (packedAnswer 30 0)) (135 ∷ 137 ∷ []) ≡ true ∷ true ∷ []
-unfolding directAnswer
-slot-sizes o = refl
+-- a slot of 135 or 137 bytes is not taken, whatever the operator answers: a value, or a refusal of its own
+pub slot-sizes : (v : Instance) → map (λ (n : ℕ). map (directAnswer (replicate n 7)) (valueOf v ∷ refusedWith 9 32 ∷ [])) (135 ∷ 137 ∷ [])
+    ≡ (packedAnswer 30 0 ∷ packedAnswer 30 0 ∷ []) ∷ (packedAnswer 30 0 ∷ packedAnswer 30 0 ∷ []) ∷ []
+unfolding intoSlot directAnswer
+slot-sizes v = refl
+
+-- nor is its size judged before the operator, the stage and the operands
+pub size-last : map (λ (n : ℕ). directAnswer [] (refusedWith n 0)) (25 ∷ 23 ∷ 26 ∷ []) ≡ packedAnswer 25 0 ∷ packedAnswer 23 0 ∷ packedAnswer 26 0 ∷ []
+unfolding intoSlot directAnswer
+size-last = refl
 
 -- the slot does not take a refusal
 pub slot-kept : directBytes (replicate 136 7) (refusedWith 9 32) ≡ replicate 136 7
-unfolding directBytes
+unfolding intoSlot directBytes
 slot-kept = refl
 
 -- a vector with one component's bytes and a scalar with one byte more are no operands; the U32 0 is one
@@ -51,11 +55,11 @@ pub operand-types : map (λ (b : List ℕ). operandIn b .ty) (
 unfolding operandIn
 operand-types = refl
 
--- an operator that is not known is refused before the operands are looked at
-pub unary-unknown : directAnswer (replicate 136 7) (unaryMeaning 4 0 (operandIn [])) ≡ packedAnswer 25 0
-unfolding directAnswer unaryMeaning
+-- an operator that is not known is refused before the operands and the slot are looked at
+pub unary-unknown : directAnswer [] (unaryMeaning 4 0 (operandIn [])) ≡ packedAnswer 25 0
+unfolding intoSlot directAnswer unaryMeaning
 unary-unknown = refl
 
-pub binary-unknown : directAnswer (replicate 136 7) (binaryMeaning 19 0 (operandIn []) (operandIn [])) ≡ packedAnswer 25 0
-unfolding directAnswer binaryMeaning
+pub binary-unknown : directAnswer [] (binaryMeaning 19 0 (operandIn []) (operandIn [])) ≡ packedAnswer 25 0
+unfolding intoSlot directAnswer binaryMeaning
 binary-unknown = refl

@@ -1,4 +1,6 @@
 pub mod Operands
 pub mod Settled
+pub mod Bounds
+pub mod Packed
 pub mod Single
 pub mod Impostors

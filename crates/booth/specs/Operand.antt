@@ -1,14 +1,16 @@
 -- The operands and answers of the direct calls, as bytes.
 use Prim.Native.Nat.{ℕ, _+_, _*_}
-use mathlib.Core.Bool.{_&&_}
+use mathlib.Core.Bool.{Bool, _&&_, _||_}
 use mathlib.Core.List.{List}
 use lib.Dec.{eqb}
 use lib.ListN.{length, getD, take, drop, replicate}
 use Rattle.types.specs.Types.{knownOf}
 use Rattle.value.specs.Pattern.{pick}
+use Rattle.value.specs.Refusals as No
 use Rattle.operand.specs.declared.Instance.{Instance}
 use Rattle.operand.specs.declared.Outcome.{Outcome}
 use Rattle.operand.specs.Operand.{shapeOk}
+use Rattle.dispatch.specs.Meaning.{refuseUnless}
 use Rattle.slot.specs.Slot.{bytesOf}
 use Rattle.fields.specs.Field.{eight, sixteen}
 use Rattle.booth.specs.Answer.{packedAnswer}
@@ -28,13 +30,22 @@ operandIn b =
     noOperand)
     noOperand
 
--- ResultsSize if the slot is not 136 bytes; else the status and detail
+-- "BadNode and BadStage for an unknown operator or stage, judged first in that order", and then BadValue for a malformed operand, left first: the
+-- refusals of the call and not of the operator, whose own are 1 to 10
+abbrev pub callRefused : ℕ → Bool
+callRefused status = eqb status No.BadNode || eqb status No.BadStage || eqb status No.BadValue
+
+-- those come first; then ResultsSize if the slot is not 136 bytes; then what the operator answers
+unfoldable pub intoSlot : List ℕ → Outcome → Outcome
+intoSlot slot o = pick (callRefused (o .status)) o (refuseUnless (eqb (length slot) 136) No.ResultsSize o)
+
+-- its status and detail
 unfoldable pub directAnswer : List ℕ → Outcome → ℕ
-directAnswer slot o = pick (eqb (length slot) 136) (packedAnswer (o .status) (o .detail)) (packedAnswer 30 0)
+directAnswer slot o = packedAnswer (intoSlot slot o .status) (intoSlot slot o .detail)
 
 -- the slot is written on success alone
 unfoldable pub directBytes : List ℕ → Outcome → List ℕ
-directBytes slot o = pick (eqb (length slot) 136 && eqb (o .status) 0) (bytesOf o) slot
+directBytes slot o = pick (eqb (intoSlot slot o .status) 0) (bytesOf o) slot
 
 -- ---- for the contracts of private functions
 -- a scalar by its type and pattern: 11 bytes, a known type, one column and one row

@@ -2,10 +2,11 @@
 use crate::pack;
 use operand::Instance;
 use operand::Outcome;
+use value::refusals;
 ghost use mathlib.Core.Path.{_≡_};
 ghost use Prim.Native.Nat.{_*_, _≤_};
 ghost use Rattle.dispatch.specs.Meaning.{binaryMeaning};
-ghost use Rattle.booth.specs.Operand.{noOperand, operandIn, directAnswer, directBytes, scalarIn};
+ghost use Rattle.booth.specs.Operand.{noOperand, operandIn, callRefused, directAnswer, directBytes, scalarIn};
 
 // A scalar by its type and pattern, or other bytes.
 pub(crate) enum One {
@@ -67,14 +68,27 @@ pub(crate) fn one_in(b: &[u8]) -> One
     One::Scalar(b[0], fields::number(fields::part(b, 3, 8)))
 }
 
-// Answers an outcome, and puts its value into a slot where there is one. The slot's size is judged first.
+// Whether the call itself is refused: its operator, its stage or an operand.
+fn call_refused(status: u8) -> bool
+    ensures { λ r. ⌜ r ≡ callRefused status ⌝ }
+{
+    (status == refusals::BAD_NODE)
+        | (status == refusals::BAD_STAGE)
+        | (status == refusals::BAD_VALUE)
+}
+
+// Answers an outcome, and puts its value into a slot where there is one. A refusal of the call itself stands before that
+// of the slot's size, and that before what the operator answers.
 pub(crate) fn settle(slot: &mut [u8], o: Outcome) -> u64
     ensures { λ r. ⌜ (r ≡ directAnswer (now (slot .entry)) o) × (now (slot .exit) ≡ directBytes (now (slot .entry)) o) ⌝ }
 {
-    if slot.len() != 136 {
-        return pack(30, 0);
-    }
     let answer = pack(o.status, o.detail as u64);
+    if call_refused(o.status) {
+        return answer;
+    }
+    if slot.len() != 136 {
+        return pack(refusals::RESULTS_SIZE, 0);
+    }
     if o.status != 0 {
         return answer;
     }

@@ -63,7 +63,8 @@ pub extern "C" fn wgsl_binary(op: u8, stage: u8, left: &[u8], right: &[u8], slot
 pub extern "C" fn sheet_check(sheet: &[u8]) -> u64
     ensures { λ r. ⌜ r ≡ packedFold (foldedOf (checkedOf (readSheet (now (sheet .entry))))) ⌝ }
 {
-    pack_fold(fold::check(sheet))
+    let checked = fold::check(sheet);
+    pack_fold(checked)
 }
 
 // Fresh evaluation of a sheet over its results. The detail is the number of entries.
@@ -72,7 +73,8 @@ pub extern "C" fn sheet_fresh(sheet: &[u8], results: &mut [u8]) -> u64
     ensures { λ r. ⌜ (r ≡ packedFold (freshAnswer (readSheet (now (sheet .entry))) (now (results .entry))))
         × (now (results .exit) ≡ freshBytes (readSheet (now (sheet .entry))) (now (results .entry))) ⌝ }
 {
-    pack_fold(fold::evaluate(sheet, results))
+    let filled = fold::evaluate(sheet, results);
+    pack_fold(filled)
 }
 
 // New content for a setting. The detail is the number of entries that depend on it.

@@ -8,7 +8,7 @@ use Rattle.rounding.specs.Bits.{ofFields, ofBits, toBits}
 use Rattle.dispatch.specs.Meaning.{unaryMeaning, binaryMeaning}
 use Rattle.slot.specs.Bytes.{lows, whole, part}
 use Rattle.slot.specs.Slot.{eights, numbers, bytesOf, saidBy, slot, each, componentFormed, componentsFormed, valueFormed, blank, formed, wellFormed}
-use Rattle.booth.specs.Operand.{directAnswer, directBytes}
+use Rattle.booth.specs.Operand.{intoSlot, directAnswer, directBytes}
 use Rattle.fields.specs.Field.{nth, tab, sixteen}
 use Rattle.cases.specs.Record.{componentsIn, instanceIn, secondPlace, answerIn, outcomeIn, askedBy}
 use Rattle.cases.specs.Scalars.{unaryBy, scalarRead}
@@ -48,7 +48,7 @@ unfolding lows eights bytesOf nth tab sixteen unaryMeaning binaryMeaning compone
 shapes-answers = refl
 
 pub operators-answers : map operatorRight (unknown 25 ++ unknown 26) ≡ true ∷ true ∷ false ∷ false ∷ false ∷ false ∷ []
-unfolding nth tab sixteen unaryMeaning binaryMeaning directAnswer directBytes componentsIn instanceIn secondPlace answerIn outcomeIn askedBy same operatorRight
+unfolding nth tab sixteen unaryMeaning binaryMeaning intoSlot directAnswer directBytes componentsIn instanceIn secondPlace answerIn outcomeIn askedBy same operatorRight
 operators-answers = refl
 
 -- `!` of a Bool, and what is said of it: status, type and pattern

@@ -6,12 +6,14 @@ use mathlib.Core.Logic.{inl, inr}
 use mathlib.Core.List.{List, [], _∷_, _++_, append-nil}
 use native.Mathlib.Omega.{arith}
 use native.Mathlib.Nat.{sub-zero}
+use lib.Dec.{eqb}
 use lib.ListN.{length, getD, take, drop, replicate, length-append, length-take}
 use lib.Seq.{take-all, take-length, length-take-le}
 use borrow.Author.Tests.{ne-eqb, lt-ltb, le-ltb, not-true, not-false}
 use Rattle.integer.proofs.Order.{le-or-lt}
+use Rattle.value.specs.Pattern.{pick}
 use Rattle.slot.specs.Slot.{bytesOf}
-use Rattle.booth.specs.Operand.{operandIn, directAnswer, directBytes}
+use Rattle.booth.specs.Operand.{operandIn, callRefused, intoSlot, directAnswer, directBytes}
 use Rattle.cases.specs.Record.{filled, componentsIn, laidOut, areaIn, usedIn, bytesForC, operandOfC, answerIn, outcomeIn, askedBy}
 use Rattle.cases.specs.Judged.{answeredSo, same, untouched, operatorRight}
 
@@ -76,12 +78,16 @@ module _ (o : List ℕ) (a b : ℕ) (ea : a ≡ getD o 1 0) (eb : b ≡ getD o 2
 -- a record that says a value says every byte of the slot; one that says a refusal says them as they were
 module _ (s : List ℕ) (k : ℕ) (ek : k ≡ getD s 0 0) where
   says-value : k ≡ 0 → directBytes untouched (outcomeIn s) ≡ bytesOf (outcomeIn s)
-  unfolding directBytes outcomeIn
+  unfolding intoSlot directBytes outcomeIn
   says-value z = rw (← ek, z)
 
   says-refusal : (k ≡ 0 → ⊥) → directBytes untouched (outcomeIn s) ≡ untouched
-  unfolding directBytes outcomeIn
-  says-refusal z = rw (← ek, ne-eqb k 0 z)
+  unfolding intoSlot directBytes outcomeIn
+  says-refusal z = go (callRefused (getD s 0 0))
+    where
+      go : (c : Bool) → pick (eqb (pick c (outcomeIn s) (outcomeIn s) .status) 0) (bytesOf (outcomeIn s)) untouched ≡ untouched
+      go true = rw (← ek, ne-eqb k 0 z)
+      go false = rw (← ek, ne-eqb k 0 z)
 
 module _ (c s : List ℕ) (es : s ≡ answerIn c) (n : ℕ) (en : n ≡ directAnswer untouched (askedBy operandOfC c))
     (m : List ℕ) (em : m ≡ directBytes untouched (askedBy operandOfC c)) (t : Bool) (et : t ≡ answeredSo n s) where

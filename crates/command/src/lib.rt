@@ -1,60 +1,68 @@
-// The command `listing [-v] SHEET [ENTRY TYPE BITS]...`, given its words, each ended by a byte 0. All words are judged before anything is
-// listed. No contract can say what is printed: the bytes are those of the crate `text`.
-mod asked;
-mod sheet;
+// The command `listing [-v] SHEET [ENTRY TYPE BITS]...`, given its words, each ended by a byte 0: one function makes the whole text from the words
+// and the file's bytes, and around it the file is read and the text is written.
+mod pages;
+mod show;
+mod whole;
 
-ghost use Prim.Native.Nat.{_+_, _*_, _^_, _<_};
 use libc::STDOUT_FILENO;
+ghost use Prim.Native.Nat.{_≤_};
+ghost use lib.ListN.{length};
+ghost use Rattle.io.specs.Counts.{Counts};
+ghost use Rattle.text.specs.Text.{Put};
+ghost use Rattle.command.specs.Listing.{listingOf, printed};
 
-// Prints a text.
-fn say(text: &[u8]) {
-    io::write_all(STDOUT_FILENO, text);
+// How many bytes of a file were read, and whether reading went well.
+struct Read {
+    n: usize,
+    whole: bool,
 }
 
-// One line that says what is wrong with a word.
-fn complain(what: &[u8], word: &[u8]) {
-    say(b"listing: ");
-    say(what);
-    say(word);
-    say(b"\n");
-}
-
-// Reads the sheet and lists it, or says in one line why it cannot.
-fn list(path: &[u8], line: &[u8], from: usize, changes: usize, verbose: bool)
-    requires { ⌜ from + 3 * changes < 2 ^ 64 ⌝ }
+// The text of a command at the start of a lent buffer, given whether its file could be read and the file's bytes. Says its length. The text is made
+// twice, to measure it and to write it where it fits.
+pub fn listing(out: &mut [u8], line: &[u8], readable: bool, bytes: &[u8]) -> usize
+    ensures { λ r. ⌜ Put (now (out .entry)) (now (out .exit)) 0 r
+        (printed (length (now (out .entry))) (listingOf (now (line .entry)) readable (now (bytes .entry)))) ⌝ }
+    ensures { λ r. ⌜ Counts r (now (out .exit)) ⌝ }
 {
-    let mut bytes = [0u8; 16385];
-    let read = sheet::load(path, &mut bytes);
-    let n = read.n;
-    if !read.whole {
-        complain(b"cannot read ", path);
-        return;
+    let mut none = [0u8; 1];
+    let n = whole::whole(&mut none, line, readable, bytes);
+    if out.len() < n {
+        let k = show::complain(out, b"too much for one command", b"");
+        return if k < out.len() { k } else { out.len() };
     }
-    if 16384 < n {
-        complain(b"over 16384 bytes: ", path);
-        return;
-    }
-    sheet::show(&bytes[0..n], line, from, changes, verbose);
+    whole::whole(out, line, readable, bytes)
 }
 
-// Runs the command.
+// Reads the file's bytes to the start of a buffer, as many as it holds.
+fn load(path: &[u8], bytes: &mut [u8]) -> Read
+    ensures { λ r. ⌜ r .n ≤ length (now (bytes .exit)) ⌝ }
+{
+    let fd = os::open_read(path);
+    if fd < 0 {
+        return Read { n: 0, whole: false };
+    }
+    let n = io::read_full(fd, bytes);
+    let mut one = [0u8; 1];
+    let more = libc::read(fd, &mut one);
+    libc::close(fd);
+    Read {
+        n,
+        whole: more >= 0,
+    }
+}
+
+// Writes the text of a command, which is at most as long as this buffer.
+fn print(out: &mut [u8; 4194304], line: &[u8], readable: bool, bytes: &[u8]) {
+    let n = listing(out, line, readable, bytes);
+    let text = &out[..];
+    io::write_all(STDOUT_FILENO, &text[0..n]);
+}
+
+// Runs the command: reads its file, of which a byte past the longest sheet is enough, and writes its text.
 pub fn run(line: &[u8]) {
-    let n = words::count(line);
-    let verbose = check::same(words::word(line, 0), b"-v");
-    let first: usize = if verbose { 1 } else { 0 };
-    if n <= first {
-        say(b"usage: listing [-v] SHEET [ENTRY TYPE BITS]...\n");
-        return;
-    }
-    let rest = n - first - 1;
-    if rest % 3 != 0 {
-        complain(b"too few words after ", words::word(line, n - 1 - rest % 3));
-        return;
-    }
-    let bad = asked::first_bad(line, first + 1, rest / 3);
-    if bad != 0 {
-        complain(b"bad word ", words::word(line, bad));
-        return;
-    }
-    list(words::word(line, first), line, first + 1, rest / 3, verbose);
+    let mut bytes = [0u8; 16385];
+    let read = load(asked::sheet_word(line), &mut bytes);
+    let n = read.n;
+    let mut out = [0u8; 4194304];
+    print(&mut out, line, read.whole, &bytes[0..n]);
 }

@@ -8,6 +8,7 @@ use Rattle.scalar.specs.declared.Step.the-variants as S
 use Rattle.scalar.specs.declared.Conv.{Conv}
 use Rattle.scalar.specs.declared.Conv.the-variants as C
 use Rattle.value.specs.Pattern.{pick}
+use Rattle.value.specs.Refusals as No
 use Rattle.scalar.specs.Step.{refusal, stepOf, unaryStepOf, convOf}
 use Rattle.operand.specs.Operand.{upTo, componentAt, isScalar}
 use Rattle.components.specs.declared.Run.{Run}
@@ -46,7 +47,7 @@ stepResult (S.Refused r) = stop r
 -- one conversion's bits; a failed conversion is Binary
 abbrev pub convResult : Conv → Out ℕ
 convResult (C.Bits b) = got b
-convResult C.Nothing = stop (refusal 2 0)
+convResult C.Nothing = stop (refusal No.Binary 0)
 
 -- what stands at places a, a + s, a + 2 s and so on
 abbrev pub lane : List ℕ → ℕ → ℕ → ℕ → ℕ

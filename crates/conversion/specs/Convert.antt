@@ -19,8 +19,8 @@ use Rattle.value.specs.declared.Found.{Found}
 use Rattle.value.specs.declared.Found.the-variants.{Value, Nothing}
 use Rattle.value.specs.declared.Pair.{Pair}
 use Rattle.value.specs.declared.Pair.the-variants.{None}
-use Rattle.value.specs.Pair.{bothOf}
-use Rattle.value.specs.Scalar.{typeOf, finiteOf}
+use Rattle.value.specs.Pair.{pairOf, bothOf}
+use Rattle.value.specs.Scalar.{typeOf, finiteOf, keptScalar}
 
 -- "An integer must lie in an integer target."
 abbrev pub inNatural : Width → ℤ → Bool
@@ -63,9 +63,9 @@ fromInt ty x = getD (Nothing ∷ targets x) ty Nothing
 abbrev pub fromFloat : ℕ → Float → Found
 fromFloat ty x = getD (Nothing ∷ Nothing ∷ Value (AbstractFloat x) ∷ Nothing ∷ Nothing ∷ floatToF32 x ∷ floatToF16 x ∷ []) ty Nothing
 
--- "equal types, which stand unconverted"
+-- "equal types, which stand unconverted", a NaN as it is kept
 abbrev pub stands : ℕ → Scalar → Found
-stands ty s = pick (eqb (typeOf s) ty) (Value s) Nothing
+stands ty s = pick (eqb (typeOf s) ty) (Value (keptScalar s)) Nothing
 
 -- a scalar as one of a type
 abbrev pub convertTo : ℕ → Scalar → Found
@@ -76,6 +76,10 @@ convertTo ty (I32 x) = stands ty (I32 x)
 convertTo ty (U32 x) = stands ty (U32 x)
 convertTo ty (F32 x) = stands ty (F32 x)
 convertTo ty (F16 x) = stands ty (F16 x)
+
+-- two operands of one type, which need no conversion; a NaN as it is kept
+abbrev pub keptPair : Scalar → Scalar → Pair
+keptPair l r = pairOf (keptScalar l) (keptScalar r)
 
 -- two operands of their common type; "otherwise none"
 abbrev pub inCommon : CommonType → Scalar → Scalar → Pair

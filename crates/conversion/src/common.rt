@@ -4,13 +4,14 @@ use types::CommonType;
 use value::Found;
 use value::Pair;
 use value::Scalar;
+use value::pattern::kept_scalar;
 use value::type_of;
 ghost use mathlib.Core.Path.{_≡_};
-ghost use Rattle.conversion.specs.Convert.{commonOf};
+ghost use Rattle.conversion.specs.Convert.{commonOf, keptPair};
 ghost use Rattle.value.specs.Pair.{pairOf};
 
-// The pair of two scalars, if they have one type.
-pub fn pair(l: Scalar, r: Scalar) -> Pair
+// The pair of two scalars as they are, if they have one type.
+fn paired(l: Scalar, r: Scalar) -> Pair
     ensures { λ p. ⌜ p ≡ pairOf l r ⌝ }
 {
     match l {
@@ -45,6 +46,13 @@ pub fn pair(l: Scalar, r: Scalar) -> Pair
     }
 }
 
+// The pair of two scalars, if they have one type; a NaN as it is kept.
+pub fn pair(l: Scalar, r: Scalar) -> Pair
+    ensures { λ p. ⌜ p ≡ keptPair l r ⌝ }
+{
+    paired(kept_scalar(l), kept_scalar(r))
+}
+
 // Two operands as a pair of their common type.
 pub fn common(l: Scalar, r: Scalar) -> Pair
     ensures { λ p. ⌜ p ≡ commonOf l r ⌝ }
@@ -59,5 +67,5 @@ pub fn common(l: Scalar, r: Scalar) -> Pair
     let Found::Value(y) = convert(ty, r) else {
         return Pair::None;
     };
-    pair(x, y)
+    paired(x, y)
 }

@@ -1,6 +1,7 @@
 // The conversions, a function for each target.
 use value::Found;
 use value::Scalar;
+use value::pattern::kept_scalar;
 use value::type_of;
 ghost use mathlib.Core.Path.{_≡_};
 ghost use Rattle.conversion.specs.Convert.{convertTo, fromFloat, fromInt, intToF16, intToF32, intToFloat, intToI32, intToU32, floatToF16, floatToF32, stands, whenFinite};
@@ -103,12 +104,12 @@ fn from_float(ty: u8, x: f64) -> Found
     }
 }
 
-// A scalar of the type asked for stands as it is.
+// A scalar of the type asked for stands as it is, its NaN as it is kept.
 fn stand(ty: u8, s: Scalar) -> Found
     ensures { λ r. ⌜ r ≡ stands ty s ⌝ }
 {
     if type_of(s) == ty {
-        return Found::Value(s);
+        return Found::Value(kept_scalar(s));
     }
     Found::Nothing
 }

@@ -18,10 +18,10 @@ use Rattle.components.proofs.Satisfies.{Satisfies}
 use Rattle.dispatch.specs.Meaning.{refuseUnless, onResult, shapedAnswer}
 
 refusing : (r : Refusal) → Refuses r → Answers (refusedWith (r .number) (r .detail))
-refusing r h = inr (record { low = h .low; high = h .high; plain = h .plain; zeros = refl })
+refusing r h = inr (record { low = h .low; high = h .high; plain = h .plain; small = h .small; zeros = refl })
 
 pub numbered : (n : ℕ) → 1 ≤ n → n ≤ 3 → Answers (refusedWith n 0)
-numbered n h k = inr (record { low = h; high = omega arith; plain = λ a b. refl; zeros = refl })
+numbered n h k = inr (record { low = h; high = omega arith; plain = λ a b. refl; small = omega arith; zeros = refl })
 
 pub needed : (b : Bool) (n : ℕ) (o : Outcome) → 1 ≤ n → n ≤ 3 → Answers o → Answers (refuseUnless b n o)
 needed true n o h k f = f

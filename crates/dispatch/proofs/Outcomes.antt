@@ -7,6 +7,7 @@ use mathlib.Core.Logic.{_⊎_, inl, inr}
 use Prim.Native.Nat.{ℕ}
 use native.Mathlib.Omega.{arith}
 use Rattle.types.specs.Types.{unaryRightOf}
+use Rattle.value.specs.Refusals as No
 use Rattle.operand.specs.Operand.{shapeOf, isMatrix, componentCount, operandFormed}
 use Rattle.operand.specs.Outcome.{refusedWith}
 use Rattle.operand.specs.declared.Instance.{Instance}
@@ -43,7 +44,7 @@ module _ (op stage : ℕ) (l r : Instance) (gl : operandFormed l ≡ true) (gr :
   targets-answer pair (T.Types x y) e = both-answer x y pair (meets op (l .ty) (r .ty) x y e)
   targets-answer pair T.Nothing e = numbered 2 (omega arith) (omega arith)
 
-  paired : (t : Bool) → pairOk op (shapeOf l) (shapeOf r) ≡ t → Answers (refuseUnless t 2 (onTargets (targetsOf op (l .ty) (r .ty)) op stage l r))
+  paired : (t : Bool) → pairOk op (shapeOf l) (shapeOf r) ≡ t → Answers (refuseUnless t No.Binary (onTargets (targetsOf op (l .ty) (r .ty)) op stage l r))
   paired true pair = targets-answer pair (targetsOf op (l .ty) (r .ty)) refl
   paired false pair = numbered 2 (omega arith) (omega arith)
 
@@ -72,15 +73,15 @@ module _ (op stage : ℕ) (v : Instance) (g : operandFormed v ≡ true) where
 
 -- ---- any operands at all
 abbrev pub Outcomes : Outcome → Type 0
-Outcomes o = (o ≡ refusedWith 25 0) ⊎ ((o ≡ refusedWith 23 0) ⊎ ((o ≡ refusedWith 26 0) ⊎ Answers o))
+Outcomes o = (o ≡ refusedWith No.BadNode 0) ⊎ ((o ≡ refusedWith No.BadStage 0) ⊎ ((o ≡ refusedWith No.BadValue 0) ⊎ Answers o))
 
 -- a check of the operands, in front of an operator
-formed-outcome : (b : Bool) (o : Outcome) → (b ≡ true → Outcomes o) → Outcomes (refuseUnless b 26 o)
+formed-outcome : (b : Bool) (o : Outcome) → (b ≡ true → Outcomes o) → Outcomes (refuseUnless b No.BadValue o)
 formed-outcome true o f = f refl
 formed-outcome false o f = inr (inr (inl refl))
 
 -- the checks of the operator and of the stage, in front of those
-called-outcome : (a b : Bool) (o : Outcome) → Outcomes o → Outcomes (refuseUnless a 25 (refuseUnless b 23 o))
+called-outcome : (a b : Bool) (o : Outcome) → Outcomes o → Outcomes (refuseUnless a No.BadNode (refuseUnless b No.BadStage o))
 called-outcome true true o f = f
 called-outcome true false o f = inr (inl refl)
 called-outcome false b o f = inl refl

@@ -13,6 +13,7 @@ use Rattle.value.specs.Pattern.{pick}
 use Rattle.value.specs.Scalar.{scalarOf}
 use Rattle.scalar.specs.Step.{stepOf}
 use Rattle.types.specs.Types.{rightOf, resultType}
+use Rattle.value.specs.Refusals as No
 use Rattle.scalar.proofs.Reread.{again, rereads, rightType, step-alike}
 use Rattle.operand.specs.Operand.{shapeOf, isScalar, componentCount, Small, componentAt, operandFormed}
 use Rattle.components.specs.Components.{Out, got, eachComponent, stepResult, convResult, strideOf, convertedAt}
@@ -125,7 +126,7 @@ module _ (stage ty : ℕ) (a b : Shape) (sa : Small a) (sb : Small b) (xs vs ys 
   converted-same : (op : ℕ) → Alike op stage ty a xs vs b ys ws → onConverted op stage ty a xs b ys ≡ onConverted op stage ty a vs b ws
   unfolding onConverted
   converted-same op same =
-      need-same (fitsOf op a b) _ _ _ (λ f. ap (refuseUnless (rightOf op ty) 2) (pick-same (isProduct op a b) _ _ _ _
+      need-same (fitsOf op a b) _ _ _ (λ f. ap (refuseUnless (rightOf op ty) No.Binary) (pick-same (isProduct op a b) _ _ _ _
       (λ e. product-same (subst (λ (o : ℕ). Alike o stage ty a xs vs b ys ws) (five op e) same) (rw e at f))
       (λ e. component-same op same (rw e at f))))
 

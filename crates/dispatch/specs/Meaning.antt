@@ -5,6 +5,7 @@ use mathlib.Core.List.{List}
 use lib.Dec.{eqb}
 use Rattle.value.specs.Pattern.{pick}
 use Rattle.types.specs.Types.{rightOf, unaryRightOf, resultType}
+use Rattle.value.specs.Refusals as No
 use Rattle.operand.specs.Operand.{shapeOf, isMatrix, componentCount, operandFormed}
 use Rattle.operand.specs.Outcome.{refusedWith, valueOf}
 use Rattle.components.specs.Components.{Out, got, stop, eachComponent, lane, strideOf, binaryAt, unaryAt, convertedAt}
@@ -52,7 +53,7 @@ matrixProduct stage ty a xs b ys =
 unfoldable pub onConverted : ℕ → ℕ → ℕ → Shape → List ℕ → Shape → List ℕ → Outcome
 onConverted op stage ty a xs b ys =
     refuseUnless (fitsOf op a b) (misfitOf op a b)
-    (refuseUnless (rightOf op ty) 2
+    (refuseUnless (rightOf op ty) No.Binary
     (pick (isProduct op a b) (matrixProduct stage ty a xs b ys) (byComponent op stage ty a xs b ys)))
 
 -- conversions, left first; then the operator on the converted components
@@ -65,32 +66,32 @@ convertedTo x y op stage l r =
 -- no common type is Binary
 abbrev pub onTargets : Targets → ℕ → ℕ → Instance → Instance → Outcome
 onTargets (T.Types x y) op stage l r = convertedTo x y op stage l r
-onTargets T.Nothing op stage l r = refusedWith 2 0
+onTargets T.Nothing op stage l r = refusedWith No.Binary 0
 
 -- shape pair; common type; conversions and what comes after
 unfoldable pub judged : ℕ → ℕ → Instance → Instance → Outcome
-judged op stage l r = refuseUnless (pairOk op (shapeOf l) (shapeOf r)) 2 (onTargets (targetsOf op (l .ty) (r .ty)) op stage l r)
+judged op stage l r = refuseUnless (pairOk op (shapeOf l) (shapeOf r)) No.Binary (onTargets (targetsOf op (l .ty) (r .ty)) op stage l r)
 
 -- a binary operator by code: BadNode, BadStage, a malformed operand, left first; then the operator's own order
 unfoldable pub binaryMeaning : ℕ → ℕ → Instance → Instance → Outcome
 binaryMeaning op stage l r =
-    refuseUnless (opKnown op) 25
-    (refuseUnless (stageKnown stage) 23
-    (refuseUnless (operandFormed l) 26
-    (refuseUnless (operandFormed r) 26
+    refuseUnless (opKnown op) No.BadNode
+    (refuseUnless (stageKnown stage) No.BadStage
+    (refuseUnless (operandFormed l) No.BadValue
+    (refuseUnless (operandFormed r) No.BadValue
     (judged op stage l r))))
 
 -- a unary operator on a scalar or vector; a matrix, or a type with no right to it, is Unary
 unfoldable pub unaryJudged : ℕ → Instance → Outcome
 unaryJudged op v =
-    refuseUnless (not (isMatrix (shapeOf v))) 1
-    (refuseUnless (unaryRightOf op (v .ty)) 1
+    refuseUnless (not (isMatrix (shapeOf v))) No.Unary
+    (refuseUnless (unaryRightOf op (v .ty)) No.Unary
     (shapedAnswer (eachComponent (unaryAt op (v .ty) (v .comps)) (componentCount (shapeOf v))) (v .ty) (v .cols) (v .rows)))
 
 -- a unary operator by code: BadNode, BadStage, a malformed operand; then the operator
 unfoldable pub unaryMeaning : ℕ → ℕ → Instance → Outcome
 unaryMeaning op stage v =
-    refuseUnless (unaryKnown op) 25
-    (refuseUnless (stageKnown stage) 23
-    (refuseUnless (operandFormed v) 26
+    refuseUnless (unaryKnown op) No.BadNode
+    (refuseUnless (stageKnown stage) No.BadStage
+    (refuseUnless (operandFormed v) No.BadValue
     (unaryJudged op v)))

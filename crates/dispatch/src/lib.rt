@@ -20,6 +20,7 @@ use pairing::result_shape;
 use pairing::targets_of;
 use products::cells;
 use products::vec_mat;
+use value::refusals;
 ghost use mathlib.Core.Path.{_≡_};
 ghost use mathlib.Core.Bool.{true};
 ghost use Rattle.operand.specs.Operand.{inShape, Small, operandFormed};
@@ -96,7 +97,7 @@ fn work(op: u8, stage: u8, ty: u8, a: Shape, x: &[u64; 16], b: Shape, y: &[u64; 
         return refused(misfit(op, a, b), 0);
     }
     if !types::right(op, ty) {
-        return refused(2, 0);
+        return refused(refusals::BINARY, 0);
     }
     if is_product(op, a, b) {
         return multiply(stage, ty, a, x, b, y);
@@ -152,11 +153,11 @@ pub fn judge(
     ensures { λ o. ⌜ o ≡ judged op stage (inShape lt a (now (l .entry))) (inShape rt b (now (r .entry))) ⌝ }
 {
     if !pair_ok(op, a, b) {
-        return refused(2, 0);
+        return refused(refusals::BINARY, 0);
     }
     let targets = targets_of(op, lt, rt);
     let Targets::Types(x, y) = targets else {
-        return refused(2, 0);
+        return refused(refusals::BINARY, 0);
     };
     convert_both(op, stage, x, y, lt, a, l, rt, b, r)
 }
@@ -167,10 +168,10 @@ pub fn unary_judge(op: u8, ty: u8, s: Shape, comps: &[u64; 16]) -> Outcome
     ensures { λ o. ⌜ o ≡ unaryJudged op (inShape ty s (now (comps .entry))) ⌝ }
 {
     if is_matrix(s) {
-        return refused(1, 0);
+        return refused(refusals::UNARY, 0);
     }
     if !types::unary_right(op, ty) {
-        return refused(1, 0);
+        return refused(refusals::UNARY, 0);
     }
     let run = unary_steps(op, ty, comps, count(s));
     answer_of(run, ty, s.cols, s.rows)

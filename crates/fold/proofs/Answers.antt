@@ -9,6 +9,7 @@ use lib.Dec.{eqb, ltb}
 use lib.ListN.{length, replicate, List·getD-eq-default}
 use borrow.Author.Tests.{eq-eqb, ne-eqb, eqb-true, lt-ltb, not-true, not-false}
 use Rattle.value.specs.Pattern.{pick, properOf, keptOf}
+use Rattle.value.specs.Refusals as No
 use Rattle.slot.proofs.Parts.{le-or-lt}
 use Rattle.sheet.specs.declared.Checked.{Checked}
 use Rattle.sheet.specs.declared.Checked.the-variants as checked
@@ -83,7 +84,7 @@ module _ (s : List ℕ) (size n at i ty bits : ℕ) (b : Bool) (e : b ≡ eqb si
       unfolding Judged faultOf must
       judged-none h = λ es p c. rw (size-is es c true (not-false b q), said (entryAt es i) x (setting-said es p c) .0 h)
 
-      pub judged-content : (own : ℕ) → x ≡ Of own → (r : ℕ) → r ≡ must (properOf ty bits) 26 (must (eqb ty own) 32 0) → Judged s size n at i ty bits r
+      pub judged-content : (own : ℕ) → x ≡ Of own → (r : ℕ) → r ≡ must (properOf ty bits) No.BadValue (must (eqb ty own) No.SettingType 0) → Judged s size n at i ty bits r
       unfolding Judged faultOf must
       judged-content own h r g = λ es p c.
           let w = said (entryAt es i) x (setting-said es p c) .1 own h in
@@ -91,15 +92,15 @@ module _ (s : List ℕ) (size n at i ty bits : ℕ) (b : Bool) (e : b ≡ eqb si
 
 -- new content against the setting's own type
 module _ (ty bits own : ℕ) (a : Bool) (g : a ≡ properOf ty bits) where
-  pub content-value : not a ≡ true → _≡_ {A = ℕ} 26 (must (properOf ty bits) 26 (must (eqb ty own) 32 0))
+  pub content-value : not a ≡ true → _≡_ {A = ℕ} No.BadValue (must (properOf ty bits) No.BadValue (must (eqb ty own) No.SettingType 0))
   unfolding must
   content-value z = rw (← g, not-true a z)
 
-  pub content-type : not a ≡ false → ty ≢ own → _≡_ {A = ℕ} 32 (must (properOf ty bits) 26 (must (eqb ty own) 32 0))
+  pub content-type : not a ≡ false → ty ≢ own → _≡_ {A = ℕ} No.SettingType (must (properOf ty bits) No.BadValue (must (eqb ty own) No.SettingType 0))
   unfolding must
   content-type z ne = rw (← g, not-false a z, ne-eqb ty own ne)
 
-  pub content-fits : not a ≡ false → ty ≡ own → _≡_ {A = ℕ} 0 (must (properOf ty bits) 26 (must (eqb ty own) 32 0))
+  pub content-fits : not a ≡ false → ty ≡ own → _≡_ {A = ℕ} 0 (must (properOf ty bits) No.BadValue (must (eqb ty own) No.SettingType 0))
   unfolding must
   content-fits z same = rw (← g, not-false a z, eq-eqb ty own same)
 
@@ -109,6 +110,7 @@ pub record NoFault (es : List Entry) (size i ty bits : ℕ) : Type 0 where
   pub setting : isSetting (entryAt es i) ≡ true
   pub among : i < length es
   pub proper : properOf ty bits ≡ true
+  pub typed : ty ≡ settingType (entryAt es i)
 
 need-zero : (t : Bool) (n x : ℕ) → (n ≡ 0 → ⊥) → must t n x ≡ 0 → (t ≡ true) × (x ≡ 0)
 unfolding must
@@ -121,7 +123,14 @@ no-fault es size i ty bits e =
     let p = need-zero _ 30 _ (λ z. omega arith) e in
     let q = need-zero _ 31 _ (λ z. omega arith) (p .1) in
     let r = need-zero _ 26 _ (λ z. omega arith) (q .1) in
-    record { sized = eqb-true size (136 * length es) (p .0); setting = q .0; among = setting-among es i (q .0); proper = r .0 }
+    let t = need-zero _ 32 _ (λ z. omega arith) (r .1) in
+    record {
+      sized = eqb-true size (136 * length es) (p .0);
+      setting = q .0;
+      among = setting-among es i (q .0);
+      proper = r .0;
+      typed = eqb-true ty (settingType (entryAt es i)) (t .0);
+    }
 
 -- ---- the calls
 -- what a change answers and leaves, as its contract says it
@@ -160,7 +169,7 @@ module _ (s : List ℕ) (x : Checked) (e : x ≡ checkedOf (readSheet s)) where
       same-size : (c : Bool) → b ≡ c → eqb (length l) (136 * length (read .0)) ≡ c
       same-size c h = ap (λ (k : ℕ). eqb (length l) (136 * k)) (read .3) ∙ sym f ∙ h
 
-      pub fresh-size : not b ≡ true → (Refused 30 0 ≡ freshAnswer (readSheet s) l) × (l ≡ freshBytes (readSheet s) l)
+      pub fresh-size : not b ≡ true → (Refused No.ResultsSize 0 ≡ freshAnswer (readSheet s) l) × (l ≡ freshBytes (readSheet s) l)
       unfolding freshAnswer freshBytes must
       fresh-size h = (rw (read .2, same-size false (not-true b h)), rw (read .2, same-size false (not-true b h)))
 

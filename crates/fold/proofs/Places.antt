@@ -10,6 +10,7 @@ use lib.Dec.{ltb}
 use lib.ListN.{length, take, drop, getD, length-append, length-map, take-append-drop, List·getD-eq-default}
 use lib.Seq.{take-suc, drop-cons, length-take-le}
 use Rattle.value.specs.Pattern.{pick}
+use Rattle.value.specs.Refusals as No
 use Rattle.operand.specs.declared.Instance.{Instance}
 use Rattle.operand.specs.declared.Outcome.{Outcome}
 use Rattle.operand.specs.Outcome.{valueOf}
@@ -116,7 +117,7 @@ room-enough : (room : ℕ) (s : List ℕ) (d : List Entry) (at : ℕ) (es : List
 unfolding readRecords thenRead
 room-enough zero s d at es z = go (ltb at (length s))
   where
-    go : (b : Bool) → pick b (refused 24 at) (found d at) ≡ found es z → length es ≤ length d + zero
+    go : (b : Bool) → pick b (refused No.TooManyEntries at) (found d at) ≡ found es z → length es ≤ length d + zero
     go true q = absurd (never 24 at es z q)
     go false q = let h : d ≡ es = cc in omega (arith, ap length h)
 room-enough (suc room) s d at es z = go (room-enough room s) (ltb at (length s)) (readRecord (map entryStage d) s at)

@@ -1,7 +1,7 @@
 -- What is asked of a change holds of what the contracts say, for every accepted sheet.
 use mathlib.Core.Path.{_≡_, refl, sym, ap, _∙_}
-use mathlib.Core.List.{List, []}
-use mathlib.Core.Bool.{Bool, true, false, false≢true}
+use mathlib.Core.List.{List, [], List·Memᴰ, List·Memᴰ·not-nil}
+use mathlib.Core.Bool.{Bool, true, false, _||_, false≢true}
 use mathlib.Core.Logic.{_≢_, ⊎-elim, _⊎_, inl, inr}
 use Prim.Native.Nat.{ℕ, _*_, _<_}
 use native.Mathlib.Omega.{arith}
@@ -9,6 +9,7 @@ use lib.Dec.{eqb}
 use lib.ListN.{length, set, length-set, getD}
 use lib.Seq.{getD-set-same, getD-set-other}
 use borrow.Author.Tests.{eq-eqb, eqb-true, eqb-false}
+use Rattle.value.specs.Pattern.{pick}
 use Rattle.operand.specs.declared.Instance.{Instance}
 use Rattle.operand.specs.Outcome.{valueOf}
 use Rattle.slot.specs.Slot.{bytesOf}
@@ -21,7 +22,7 @@ use Rattle.fold.specs.declared.Folded.the-variants.{Done}
 use Rattle.fold.specs.Meaning.{entryMeaning}
 use Rattle.fold.specs.Fresh.{entryAt, meansOf, refsOf, evaluated, fresh, freshBytes}
 use Rattle.fold.specs.Change.{content, contentBytes, isSetting, faultOf, depends, withContent, changed, tally, changeAnswer, changeBytes, touched, marksOf, changeMarks}
-use Rattle.fold.specs.Demand.{Changed, Leads}
+use Rattle.fold.specs.Demand.{Changed, Leads, SameButContent, same, contents, Version}
 use Rattle.fold.specs.Inside.{At}
 use Rattle.fold.proofs.Steps.{marks-at}
 use Rattle.fold.proofs.Depend.{or-cases, touched-self, depends-leads, touched-leads}
@@ -110,23 +111,6 @@ module _ (s : List ℕ) (es : List Entry) (z : ℕ) (good : readSheet s ≡ foun
     marked-all ms k h (inl q) = mark-at ms k h ∙ ap (touched (refsOf es) i) q ∙ touched-self (refsOf es) i (ord .earlier)
     marked-all ms k h (inr q) = mark-at ms k h ∙ touched-leads (refsOf es) i (ord .earlier) q
 
-  -- fresh results become the fresh results of the sheet with that setting replaced
-  pub fresh-again : (l : List ℕ) (i ty bits : ℕ) → length l ≡ 136 * length es → faultOf es (length (fresh es l)) i ty bits ≡ 0
-      → changeBytes (readSheet s) (fresh es l) i ty bits ≡ fresh (set es i (setting (content ty bits))) l
-  unfolding fresh
-  fresh-again l i ty bits long ok =
-      bytes-are (fresh es l) i ty bits ok
-      ∙ changed-fresh (meansOf es) (refsOf es) ord i (length es) among (contentBytes ty bits) (bytes-long (valueOf (content ty bits))) l long
-      ∙ evaluated-same _ _ (λ k. true) (length es) l (λ k h e r. replaced k (eqb k i) refl r)
-      ∙ ap (λ (n : ℕ). evaluated (meansOf (set es i (setting (content ty bits)))) (λ k. true) n l) (sym (length-set es i (setting (content ty bits))))
-    where
-      among : i < length es
-      among = passed (fresh es l) i ty bits ok .among
-
-      replaced : (k : ℕ) (b : Bool) → eqb k i ≡ b → (r : List ℕ) → withContent (meansOf es) i (contentBytes ty bits) k r ≡ meansOf (set es i (setting (content ty bits))) k r
-      replaced k true e r = let q = eqb-true k i e in rw q (content-here (meansOf es) i (contentBytes ty bits) r ∙ sym (means-here es i (content ty bits) r among))
-      replaced k false e r = content-elsewhere (meansOf es) i (contentBytes ty bits) k r (eqb-false k i e) ∙ sym (means-there es i (content ty bits) k r (eqb-false k i e))
-
   -- changes of two different settings commute, from any buffer
   pub changes-commute : (l : List ℕ) (i ty bits j uy cits : ℕ) → i ≢ j → faultOf es (length l) i ty bits ≡ 0 → faultOf es (length l) j uy cits ≡ 0
       → changeBytes (readSheet s) (changeBytes (readSheet s) l i ty bits) j uy cits ≡ changeBytes (readSheet s) (changeBytes (readSheet s) l j uy cits) i ty bits
@@ -139,3 +123,61 @@ module _ (s : List ℕ) (es : List Entry) (z : ℕ) (good : readSheet s ≡ foun
       (setting-names es i (one .setting)) (setting-names es j (two .setting)) (bytes-long (valueOf (content ty bits))) (bytes-long (valueOf (content uy cits)))
       ∙ ap (changed (meansOf es) (refsOf es) i (contentBytes ty bits) (length es)) (sym (bytes-are l j uy cits q))
       ∙ sym (bytes-are (changeBytes (readSheet s) l j uy cits) i ty bits (rw (bytes-long-still l j uy cits q) p))
+
+-- ---- a sheet, and a version of it with other contents in its settings
+module _ (es fs : List Entry) (alike : Version es fs) where
+  -- they name the same entries
+  refs-same : refsOf es ≡ refsOf fs
+  unfolding refsOf namesOf
+  refs-same = λ x k. by k (alike .each k) x
+    where
+      by : (k : ℕ) → SameButContent (entryAt es k) (entryAt fs k) → namesOf (entryAt es k) ≡ namesOf (entryAt fs k)
+      by k (same e) = ap namesOf (sym e)
+      by k (contents v w e f q) = ap namesOf e ∙ sym (ap namesOf f)
+
+  -- an entry that names one means the same
+  namer-same : (k j : ℕ) (r : List ℕ) → List·Memᴰ j (refsOf es k) → meansOf es k r ≡ meansOf fs k r
+  unfolding meansOf refsOf namesOf
+  namer-same k j r u = by (alike .each k)
+    where
+      by : SameButContent (entryAt es k) (entryAt fs k) → bytesOf (entryMeaning r (entryAt es k)) ≡ bytesOf (entryMeaning r (entryAt fs k))
+      by (same e) = ap (λ (x : Entry). bytesOf (entryMeaning r x)) (sym e)
+      by (contents v w e f q) = absurd (List·Memᴰ·not-nil (rw (ap namesOf e) at u))
+
+  leader-same : (i k : ℕ) (r : List ℕ) → Leads (refsOf es) i k → meansOf es k r ≡ meansOf fs k r
+  leader-same i k r (Leads.direct h) = namer-same k _ r h
+  leader-same i k r (Leads.chained h q) = namer-same k _ r h
+
+  -- so what a change works means the same
+  worked-same : (earlier : (k j : ℕ) → List·Memᴰ j (refsOf es k) → j < k) (i : ℕ) (c : List ℕ) (k : ℕ) (r : List ℕ) → touched (refsOf es) i k ≡ true
+      → withContent (meansOf es) i c k r ≡ withContent (meansOf fs) i c k r
+  unfolding withContent
+  worked-same earlier i c k r e = by (eqb k i) e
+    where
+      by : (b : Bool) → (b || depends (refsOf es) i k) ≡ true → pick b c (meansOf es k r) ≡ pick b c (meansOf fs k r)
+      by true q = refl
+      by false q = leader-same i k r (depends-leads (refsOf es) i earlier k q)
+
+-- fresh results of any version become, by a change over the sheet itself, the fresh results of that version with the setting replaced
+module _ (s t : List ℕ) (es fs : List Entry) (y z : ℕ) (good : readSheet s ≡ found es y) (goods : readSheet t ≡ found fs z) (alike : Version es fs) where
+  pub fresh-again : (l : List ℕ) (i ty bits : ℕ) → length l ≡ 136 * length es → faultOf es (length (fresh fs l)) i ty bits ≡ 0
+      → changeBytes (readSheet s) (fresh fs l) i ty bits ≡ fresh (set fs i (setting (content ty bits))) l
+  unfolding fresh changed
+  fresh-again l i ty bits long ok =
+      bytes-are s es y good (fresh fs l) i ty bits ok
+      ∙ evaluated-same _ _ (touched (refsOf es) i) (length es) (fresh fs l) (λ k h e r. worked-same es fs alike (ord s es y good .earlier) i c k r e)
+      ∙ ap (λ (refs : ℕ → List ℕ). changed (meansOf fs) refs i c (length es) (fresh fs l)) (refs-same es fs alike)
+      ∙ ap (λ (n : ℕ). changed (meansOf fs) (refsOf fs) i c n (fresh fs l)) (sym (alike .long))
+      ∙ changed-fresh (meansOf fs) (refsOf fs) (ord t fs z goods) i (length fs) among c (bytes-long (valueOf (content ty bits))) l (omega (arith, alike .long))
+      ∙ evaluated-same _ _ (λ k. true) (length fs) l (λ k h e r. replaced k (eqb k i) refl r)
+      ∙ ap (λ (n : ℕ). evaluated (meansOf (set fs i (setting (content ty bits)))) (λ k. true) n l) (sym (length-set fs i (setting (content ty bits))))
+    where
+      c : List ℕ
+      c = contentBytes ty bits
+
+      among : i < length fs
+      among = omega (arith, passed s es y good (fresh fs l) i ty bits ok .among, alike .long)
+
+      replaced : (k : ℕ) (b : Bool) → eqb k i ≡ b → (r : List ℕ) → withContent (meansOf fs) i c k r ≡ meansOf (set fs i (setting (content ty bits))) k r
+      replaced k true e r = let q = eqb-true k i e in rw q (content-here (meansOf fs) i c r ∙ sym (means-here fs i (content ty bits) r among))
+      replaced k false e r = content-elsewhere (meansOf fs) i c k r (eqb-false k i e) ∙ sym (means-there fs i (content ty bits) k r (eqb-false k i e))

@@ -5,6 +5,7 @@ use mathlib.Core.List.{List, [], _∷_, _++_}
 use lib.Dec.{eqb}
 use lib.ListN.{length, replicate}
 use Rattle.value.specs.Pattern.{pick, properOf, keptOf}
+use Rattle.value.specs.Refusals as No
 use Rattle.operand.specs.declared.Instance.{Instance}
 use Rattle.operand.specs.Outcome.{valueOf}
 use Rattle.slot.specs.Slot.{bytesOf}
@@ -34,10 +35,10 @@ settingType (expression stage t) = 0
 -- the checks after the sheet's own: ResultsSize, NotASetting (also past the last entry), BadValue, SettingType; 0 if none fails
 unfoldable pub faultOf : List Entry → ℕ → ℕ → ℕ → ℕ → ℕ
 faultOf es size i ty bits =
-    must (sized es size) 30
-    (must (isSetting (entryAt es i)) 31
-    (must (properOf ty bits) 26
-    (must (eqb ty (settingType (entryAt es i))) 32
+    must (sized es size) No.ResultsSize
+    (must (isSetting (entryAt es i)) No.NotASetting
+    (must (properOf ty bits) No.BadValue
+    (must (eqb ty (settingType (entryAt es i))) No.SettingType
     0)))
 
 -- some entry of a list passes

@@ -5,8 +5,10 @@ use mathlib.Core.Bool.{Bool, true}
 use mathlib.Core.Logic.{_≢_}
 use mathlib.Core.List.{List, List·Memᴰ}
 use lib.ListN.{length}
+use Rattle.operand.specs.declared.Instance.{Instance}
 use Rattle.slot.specs.Slot.{slot}
-use Rattle.fold.specs.Fresh.{Means}
+use Rattle.sheet.specs.Tree.{Entry, setting}
+use Rattle.fold.specs.Fresh.{Means, entryAt}
 use Rattle.fold.specs.Change.{tally}
 
 -- an entry depends on a setting if a chain of references leads there, whatever the answers are
@@ -28,3 +30,13 @@ pub record Changed (m : Means) (refs : ℕ → List ℕ) (i : ℕ) (c : List ℕ
   pub own : slot r i ≡ c
   pub works : (k : ℕ) → k < n → Leads refs i k → slot r k ≡ m k r
   pub counted : (p : ℕ → Bool) → Tells refs i n p → count ≡ tally p n
+
+-- an entry e and f are the same, or both are settings of one type, whatever they hold
+pub data SameButContent (e f : Entry) : Type 0 where
+  same : f ≡ e → SameButContent e f
+  contents : (v w : Instance) → e ≡ setting v → f ≡ setting w → w .ty ≡ v .ty → SameButContent e f
+
+-- the entries fs are a version of the entries es: entry by entry the same, but for what settings hold
+pub record Version (es fs : List Entry) : Type 0 where
+  pub long : length fs ≡ length es
+  pub each : (k : ℕ) → SameButContent (entryAt es k) (entryAt fs k)

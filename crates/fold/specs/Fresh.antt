@@ -5,6 +5,7 @@ use mathlib.Core.List.{List}
 use lib.Dec.{eqb}
 use lib.ListN.{length, getD, replicate}
 use Rattle.value.specs.Pattern.{pick}
+use Rattle.value.specs.Refusals as No
 use Rattle.slot.specs.Slot.{bytesOf, put}
 use Rattle.sheet.specs.Read.{Read, found, refused, must}
 use Rattle.sheet.specs.Tree.{Entry, literal, expression, namesOf}
@@ -49,7 +50,7 @@ sized es size = eqb size (136 * length es)
 
 -- what fresh evaluation answers: the sheet's own refusals, ResultsSize, or the number of entries
 unfoldable pub freshAnswer : Read (List Entry) → List ℕ → Folded
-freshAnswer (found es n) l = must (sized es (length l)) (Refused 30 0) (Done (length es))
+freshAnswer (found es n) l = must (sized es (length l)) (Refused No.ResultsSize 0) (Done (length es))
 freshAnswer (refused k p) l = Refused k p
 
 -- the buffer afterwards; a refusal changes no byte

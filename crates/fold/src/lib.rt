@@ -5,6 +5,7 @@ mod turns;
 mod walk;
 
 use sheet::Checked;
+use value::refusals;
 ghost use mathlib.Core.Path.{_≡_};
 ghost use Rattle.sheet.specs.Sheet.{readSheet, checkedOf};
 ghost use Rattle.fold.specs.Fresh.{foldedOf, freshAnswer, freshBytes};
@@ -43,7 +44,7 @@ pub fn evaluate(sheet: &[u8], results: &mut [u8]) -> Folded
         return answer_of(seen);
     };
     if !fill::sized(results.len(), n) {
-        return Folded::Refused(30, 0);
+        return Folded::Refused(refusals::RESULTS_SIZE, 0);
     }
     fill::fill(sheet, results, n);
     Folded::Done(n)

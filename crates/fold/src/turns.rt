@@ -1,6 +1,7 @@
 // The change of a setting: its checks, and the turn of each entry after it.
 use crate::spans::span_at;
 use operand::Instance;
+use value::refusals;
 ghost use mathlib.Core.Path.{_≡_};
 ghost use lib.Dec.{eqb};
 ghost use lib.ListN.{length};
@@ -54,10 +55,10 @@ fn judge_content(ty: u8, bits: u64, own: u8) -> u8
     ensures { λ r. ⌜ r ≡ must (properOf ty bits) 26 (must (eqb ty own) 32 0) ⌝ }
 {
     if !value::proper(ty, bits) {
-        return 26;
+        return refusals::BAD_VALUE;
     }
     if ty != own {
-        return 32;
+        return refusals::SETTING_TYPE;
     }
     0
 }
@@ -67,13 +68,13 @@ pub(crate) fn judge(s: &[u8], results: &[u8], n: usize, at: usize, i: u64, ty: u
     ensures { λ r. ⌜ Judged (now (s .entry)) (length (now (results .entry))) n at i ty bits r ⌝ }
 {
     if !crate::fill::sized(results.len(), n) {
-        return 30;
+        return refusals::RESULTS_SIZE;
     }
     if n as u64 <= i {
-        return 31;
+        return refusals::NOT_A_SETTING;
     }
     let Setting::Of(own) = setting_at(s, at) else {
-        return 31;
+        return refusals::NOT_A_SETTING;
     };
     judge_content(ty, bits, own)
 }

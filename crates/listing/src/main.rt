@@ -1,17 +1,10 @@
 // Lists a sheet of constants and changes its settings: `listing [-v] SHEET [ENTRY TYPE BITS]...`.
 ghost use Prim.Native.Nat.{_≤_};
 ghost use lib.ListN.{length};
-use libc::STDOUT_FILENO;
 
-// How many bytes the program's words take, and whether all of them fit.
-struct Joined {
-    n: usize,
-    whole: bool,
-}
-
-// The program's words at the start of a line, each ended by a byte 0.
-fn join(line: &mut [u8]) -> Joined
-    ensures { λ r. ⌜ r .n ≤ length (now (line .exit)) ⌝ }
+// The program's words at the start of a line, each ended by a byte 0. Says how many bytes they take; words that do not fit take the whole line.
+fn join(line: &mut [u8]) -> usize
+    ensures { λ r. ⌜ r ≤ length (now (line .exit)) ⌝ }
 {
     let words = os::arg_count();
     let mut n = 0;
@@ -19,26 +12,22 @@ fn join(line: &mut [u8]) -> Joined
     while i < words {
         let length = os::arg(i, &mut line[n..]);
         if os::errno() != 0 {
-            return Joined { n: 0, whole: false };
+            return line.len();
         }
         n += length;
         if line.len() <= n {
-            return Joined { n: 0, whole: false };
+            return line.len();
         }
         line[n] = 0;
         n += 1;
         i += 1;
     }
-    Joined { n, whole: true }
+    n
 }
 
+// The line holds one byte more than the words of a command may take.
 fn main() {
-    let mut line = io::large_buffer();
-    let joined = join(&mut line);
-    let n = joined.n;
-    if !joined.whole {
-        io::write_all(STDOUT_FILENO, b"listing: the words are over 65536 bytes\n");
-        return;
-    }
+    let mut line = [0u8; 65537];
+    let n = join(&mut line);
     command::run(&line[0..n]);
 }

@@ -27,11 +27,12 @@ pub record Value (o : Outcome) : Type 0 where
   pub shape : shapeOk (o .value .ty) (o .value .cols) (o .value .rows) ≡ true
   pub parts : Sixteen (Fine (o .value .ty)) (componentCount (shapeOf (o .value))) (o .value .comps)
 
--- a refusal: a number from 1 to 10, detail 0 but for the shifts', and zeros
+-- a refusal: a number from 1 to 10, detail 0 but for the shifts', whose count is below 2^32, and zeros
 pub record Refusing (o : Outcome) : Type 0 where
   pub low : 1 ≤ o .status
   pub high : o .status ≤ 10
   pub plain : (o .status ≡ 9 → ⊥) → (o .status ≡ 10 → ⊥) → o .detail ≡ 0
+  pub small : o .detail < 4294967296
   pub zeros : o ≡ refusedWith (o .status) (o .detail)
 
 abbrev pub Answers : Outcome → Type 0

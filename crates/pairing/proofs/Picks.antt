@@ -5,6 +5,7 @@ use Prim.Native.Nat.{ℕ}
 use borrow.Author.Tests.{not-true, not-false}
 use native.Mathlib.Omega.{arith}
 use Rattle.value.specs.Pattern.{pick}
+use Rattle.value.specs.Refusals as No
 use Rattle.operand.specs.Operand.{isScalar, Small}
 use Rattle.operand.specs.declared.Shape.{Shape}
 use Rattle.pairing.specs.Pairing.{resultShape, callFault}
@@ -26,14 +27,14 @@ result-small a b h k = go (isScalar a)
 
 -- ---- the checks before an operator is asked
 module _ (k s f : Bool) where
-  pub fault-code : not k ≡ true → 25 ≡ callFault k s f
+  pub fault-code : not k ≡ true → No.BadNode ≡ callFault k s f
   fault-code h = rw (not-true k h)
 
   module _ (h : not k ≡ false) (t : Bool) (e : t ≡ s) where
-    pub fault-stage : not t ≡ true → 23 ≡ callFault k s f
+    pub fault-stage : not t ≡ true → No.BadStage ≡ callFault k s f
     fault-stage g = rw (not-false k h, ← e, not-true t g)
 
-    pub fault-operand : not t ≡ false → not f ≡ true → 26 ≡ callFault k s f
+    pub fault-operand : not t ≡ false → not f ≡ true → No.BadValue ≡ callFault k s f
     fault-operand g q = rw (not-false k h, ← e, not-false t g, not-true f q)
 
     pub fault-none : not t ≡ false → not f ≡ false → 0 ≡ callFault k s f

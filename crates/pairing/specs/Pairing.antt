@@ -8,6 +8,7 @@ use Rattle.types.specs.declared.CommonType.{CommonType}
 use Rattle.types.specs.declared.CommonType.the-variants.{Code, Nothing}
 use Rattle.types.specs.Types.{knownOf, goesTo, commonType}
 use Rattle.value.specs.Pattern.{pick}
+use Rattle.value.specs.Refusals as No
 use Rattle.operand.specs.Operand.{isScalar, isVector, isMatrix}
 use Rattle.operand.specs.declared.Shape.{Shape}
 use Rattle.pairing.specs.declared.Targets.{Targets}
@@ -69,7 +70,7 @@ fitsOf op a b = pick (isProduct op a b) (innerOk a b) (sameShape a b)
 
 -- shapes that do not fit: Binary for a product's inner sizes, else CompwiseBinary
 abbrev pub misfitOf : ℕ → Shape → Shape → ℕ
-misfitOf op a b = pick (isProduct op a b) 2 3
+misfitOf op a b = pick (isProduct op a b) No.Binary No.CompwiseBinary
 
 -- the shape of an answer by component: that of the operand that is no scalar, where one is
 abbrev pub resultShape : Shape → Shape → Shape
@@ -77,4 +78,4 @@ resultShape a b = pick (isScalar a) b a
 
 -- BadNode for an unknown operator, then BadStage for an unknown stage, then BadValue for a malformed operand; 0 where all three hold
 abbrev pub callFault : Bool → Bool → Bool → ℕ
-callFault known staged formed = pick known (pick staged (pick formed 0 26) 23) 25
+callFault known staged formed = pick known (pick staged (pick formed 0 No.BadValue) No.BadStage) No.BadNode

@@ -5,6 +5,7 @@ use operand::is_scalar;
 use operand::is_vector;
 use types::CommonType;
 use value::ShaderStage;
+use value::refusals;
 ghost use mathlib.Core.Path.{_≡_};
 ghost use Rattle.pairing.specs.Pairing.{opKnown, unaryKnown, stageCode, stageKnown, callFault, pairOk, targetsOf, isProduct, innerOk, sameShape, fitsOf, misfitOf, resultShape};
 
@@ -52,13 +53,13 @@ pub fn call_fault(known: bool, stage: u8, formed: bool) -> u8
     ensures { λ n. ⌜ n ≡ callFault known (stageKnown stage) formed ⌝ }
 {
     if !known {
-        return 25;
+        return refusals::BAD_NODE;
     }
     if !stage_known(stage) {
-        return 23;
+        return refusals::BAD_STAGE;
     }
     if !formed {
-        return 26;
+        return refusals::BAD_VALUE;
     }
     0
 }
@@ -137,9 +138,9 @@ pub fn misfit(op: u8, a: Shape, b: Shape) -> u8
     ensures { λ r. ⌜ r ≡ misfitOf op a b ⌝ }
 {
     if is_product(op, a, b) {
-        return 2;
+        return refusals::BINARY;
     }
-    3
+    refusals::COMPWISE_BINARY
 }
 
 // The shape of an answer by component: that of the operand that is no scalar, where one is.

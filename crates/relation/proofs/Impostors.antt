@@ -3,8 +3,7 @@ use mathlib.Core.Path.{_≡_, refl}
 use mathlib.Core.List.{List, [], _∷_}
 use mathlib.Core.Bool.{true, false}
 use lib.IntN.{pos, negsuc}
-use lib.Ieee.{nan}
-use Rattle.rounding.specs.Arithmetic.{eq, lt}
+use lib.Ieee.{nan, eq, ne, lt, le}
 use Rattle.value.specs.declared.Scalar.the-variants.{Bool as bool, I32}
 use Rattle.value.specs.declared.Pair.the-variants as P
 use Rattle.value.specs.Answer.{Result, unary, binary}
@@ -36,5 +35,5 @@ pub relation-answers : relation-witnesses ≡ (
     ∷ truth true ∷ truth false
     ∷ truth true ∷ truth false ∷ binary
     ∷ truth false ∷ unary ∷ [])
-unfolding relation-witnesses eq lt
+unfolding relation-witnesses eq ne lt le
 relation-answers = refl

@@ -1,33 +1,22 @@
 -- The code's comparisons are those of the definitions. Assumes nothing.
 use Prim.Native.Nat.{ℕ, suc, _-_}
-use mathlib.Core.Path.{_≡_, refl, sym, ap, ap₂, _∙_}
-use mathlib.Core.Bool.{Bool, true, false, not, _||_}
+use mathlib.Core.Path.{_≡_, refl, sym, ap, _∙_}
+use mathlib.Core.Bool.{Bool, true, false, not}
 use lib.Dec.{leb}
 use lib.Signed.{ltZ, leZ}
 use native.Mathlib.Omega.{arith}
 use lib.IntN.{ℤ, pos, negsuc}
-use lib.Ieee as Ieee
-use lib.Ieee.{Float}
+use lib.Ieee.{Float, eq, ne, lt, le}
 use borrow.Author.Tests.{lt-ltb, ne-eqb}
 use mir.Syntax.{w32, w64}
 use mir.Val.{Fits, SFits, sel, toZ}
-use Rattle.rounding.specs.Arithmetic.{eq, lt}
-use Rattle.rounding.proofs.Same.{eq-is, lt-is}
 use Rattle.relation.specs.declared.Numbers.{Numbers}
 use Rattle.relation.specs.declared.Numbers.the-variants as N
 use Rattle.integer.specs.Range.{pick}
 use Rattle.integer.specs.Equal.{eqZ}
 use Rattle.value.specs.Answer.{Result, binary}
 use Rattle.types.proofs.Choice.{Misses}
-use Rattle.relation.specs.Comparison.{compared, le, ofSix, realsBy, truth, wholesBy}
-
-pub le-is : (x y : Float) → Ieee.le x y ≡ le x y
-unfolding Ieee.le
-le-is x y = ap₂ _||_ (lt-is x y) (eq-is x y)
-
-pub ne-is : (x y : Float) → Ieee.ne x y ≡ not (eq x y)
-unfolding Ieee.ne
-ne-is x y = ap not (eq-is x y)
+use Rattle.relation.specs.Comparison.{compared, ofSix, realsBy, truth, wholesBy}
 
 -- a 32-bit number is one of 64 bits
 pub wider : (z : ℤ) → SFits w32 z → SFits w64 z
@@ -65,4 +54,4 @@ module _ (op : ℕ) where
     last-wholes x y = sixth (eqZ x y) (not (eqZ x y)) (ltZ x y) (leZ x y) (ltZ y x) (leZ y x)
 
     pub last-reals : (x y : Float) → le y x ≡ realsBy op x y
-    last-reals x y = sixth (eq x y) (not (eq x y)) (lt x y) (le x y) (lt y x) (le y x)
+    last-reals x y = sixth (eq x y) (ne x y) (lt x y) (le x y) (lt y x) (le y x)

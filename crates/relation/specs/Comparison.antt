@@ -1,14 +1,14 @@
--- 01, Operators: comparisons of two operands of one type. Assumes nothing.
+-- 01, Operators: comparisons of two operands of one type. Those of floats, "as in IEEE 754", are the language's own (`lib.Ieee`): -0 equals +0, and a NaN is
+-- neither equal to nor below anything. Assumes nothing.
 use Prim.Native.Nat.{ℕ}
-use mathlib.Core.Bool.{Bool, not, _||_, Bool·beq}
+use mathlib.Core.Bool.{Bool, not, Bool·beq}
 use lib.Dec.{eqb, leb}
 use lib.IntN.{ℤ, pos}
 use lib.Signed.{ltZ, leZ}
-use lib.Ieee.{Float}
+use lib.Ieee.{Float, eq, ne, lt, le}
 use Rattle.integer.specs.Range.{pick}
 use Rattle.integer.specs.Equal.{eqZ}
 use Rattle.rounding.specs.Kind.{half}
-use Rattle.rounding.specs.Arithmetic.{lt, eq}
 use Rattle.rounding.specs.Bits.{ofBits}
 use Rattle.value.specs.declared.Scalar.the-variants.{Bool as bool}
 use Rattle.value.specs.declared.Pair.{Pair}
@@ -49,11 +49,7 @@ abbrev pub eqOf : Pair → Result
 eqOf p = equality Bool·beq eqZ eq (numbersOf p)
 
 abbrev pub neOf : Pair → Result
-neOf p = equality (λ x y. not (Bool·beq x y)) (λ x y. not (eqZ x y)) (λ x y. not (eq x y)) (numbersOf p)
-
--- one is below the other or equal to it
-abbrev pub le : Float → Float → Bool
-le x y = lt x y || eq x y
+neOf p = equality (λ x y. not (Bool·beq x y)) (λ x y. not (eqZ x y)) ne (numbersOf p)
 
 abbrev pub ltOf : Pair → Result
 ltOf p = order ltZ lt (numbersOf p)
@@ -79,7 +75,7 @@ abbrev pub wholesBy : ℕ → ℤ → ℤ → Bool
 wholesBy op x y = ofSix op (eqZ x y) (not (eqZ x y)) (ltZ x y) (leZ x y) (ltZ y x) (leZ y x)
 
 abbrev pub realsBy : ℕ → Float → Float → Bool
-realsBy op x y = ofSix op (eq x y) (not (eq x y)) (lt x y) (le x y) (lt y x) (le y x)
+realsBy op x y = ofSix op (eq x y) (ne x y) (lt x y) (le x y) (lt y x) (le y x)
 
 abbrev pub compared : ℕ → Numbers → Result
 compared op n = pick (leb op 9) (equality (sameBy op) (wholesBy op) (realsBy op) n) (order (wholesBy op) (realsBy op) n)

@@ -1,5 +1,6 @@
 -- Laws, each once over the kind.
 pub mod Same
+pub mod Signs
 pub mod Single
 pub mod Impostors
 pub mod Nan
@@ -11,9 +12,18 @@ pub mod Cut
 pub mod Closest
 pub mod Pack
 pub mod Nearest
+pub mod Made
+pub mod Rounded
+pub mod Values
+pub mod Unique
+pub mod Twice
+pub mod Clear
+pub mod Grid
+pub mod Halves
 pub mod Remainder
 pub mod Width
 pub mod Back
+pub mod Reread
 pub mod Normal
 pub mod FromBits
 pub mod Leading

@@ -119,7 +119,7 @@ module _ (k : Kind) (sized : Sized k) (s : Bool) (num den : ℕ) where
   round-bits = ap (toBits k) is ∙ units-bits k sized s q j w small ∙ ap (λ (x : ℕ). cond s (signed k) 0 + min x (full k * hidden k)) (sym pack-is)
 
 -- ---- a float written by `odd`, as every finite float that is read from its bits is
-odd-round : (k : Kind) (x : Float) (s : Bool) (a c : ℕ) → 0 < c → HasValue x s a c → convert k x ≡ roundTo k s a c
+pub odd-round : (k : Kind) (x : Float) (s : Bool) (a c : ℕ) → 0 < c → HasValue x s a c → convert k x ≡ roundTo k s a c
 unfolding convert
 odd-round k (fin t m e) s a c C v = round-same k t (m * up e) (down e) a c (down-pos e) C (v .1) ∙ ap (λ (b : Bool). roundTo k b a c) (v .0)
 

@@ -30,7 +30,7 @@ mod-mul x y c Y C =
 nonzero : (b c : ℕ) → 0 < b * c → b ≡ 0 → ⊥
 nonzero b c h z = lt-irrefl 0 (subst (λ (x : ℕ). 0 < x) (ap (λ (x : ℕ). x * c) z ∙ zero-mul c) h)
 
-positive : (b c : ℕ) → 0 < b * c → 0 < b
+pub positive : (b c : ℕ) → 0 < b * c → 0 < b
 positive b c h = elim (eq-zero-or-pos b) [ inl z ↦ absurd (nonzero b c h z) | inr g ↦ g ]
 
 -- ---- what is left of two values is a value

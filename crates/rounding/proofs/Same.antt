@@ -7,7 +7,7 @@ use lib.Dec.{leb}
 use lib.Ieee as Ieee
 use lib.Ieee.{Float, Format, nan, inf, fin}
 use Rattle.rounding.specs.Kind.{Kind, unitsIn, roundTo, ofInteger}
-use Rattle.rounding.specs.Arithmetic.{sum, add, sub, mul, div, rem, eq, lt}
+use Rattle.rounding.specs.Arithmetic.{sum, add, sub, mul, div, rem}
 use Rattle.rounding.specs.Bits.{ofFields, ofBits, toBits, signed, hidden}
 
 abbrev pub of : Format → Kind
@@ -78,23 +78,3 @@ unfolding Ieee.toBits toBits
 toBits-is f nan = refl
 toBits-is f (inf s) = refl
 toBits-is f (fin s m e) = refl
-
-pub eq-is : (x y : Float) → Ieee.eq x y ≡ eq x y
-unfolding Ieee.eq eq
-eq-is nan y = refl
-eq-is (inf s) nan = refl
-eq-is (inf s) (inf t) = refl
-eq-is (inf s) (fin t n d) = refl
-eq-is (fin s m e) nan = refl
-eq-is (fin s m e) (inf t) = refl
-eq-is (fin s m e) (fin t n d) = refl
-
-pub lt-is : (x y : Float) → Ieee.lt x y ≡ lt x y
-unfolding Ieee.lt lt
-lt-is nan y = refl
-lt-is (inf s) nan = refl
-lt-is (inf s) (inf t) = refl
-lt-is (inf s) (fin t n d) = refl
-lt-is (fin s m e) nan = refl
-lt-is (fin s m e) (inf t) = refl
-lt-is (fin s m e) (fin t n d) = refl

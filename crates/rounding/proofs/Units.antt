@@ -12,7 +12,7 @@ use lib.Ieee.{inf, fin, up, down, minus, size, odd}
 use lib.Ieee.Digits.{Equals, odd-val}
 use lib.Ieee.Fits.{down-pos}
 use borrow.Author.Tests.{lt-ltb, le-ltb, ltb-true, ltb-false}
-use Rattle.rounding.specs.Kind.{Kind, half, single, least, limit, unitsIn}
+use Rattle.rounding.specs.Kind.{Kind, half, single, double, least, limit, unitsIn}
 use Rattle.rounding.specs.Bits.{hidden, full, signed, toBits, finite}
 use Rattle.rounding.proofs.Digits.{twice, AllDigits, field, packed}
 
@@ -77,7 +77,7 @@ module _ (p R j q : ℕ) (two : 2 ≤ p) (one : 0 < R) (w : AllDigits p j q) (sm
       shift : (j x : ℕ) → j + 1 ≡ x → x + 1 ≡ j + 2
       shift j x e = omega arith
 
-  in-range : j * 2 ^ (p - 1) + q < (2 * R + 1) * 2 ^ (p - 1) → q * 2 ^ j < 2 ^ (R + p - 2 + suc R)
+  pub in-range : j * 2 ^ (p - 1) + q < (2 * R + 1) * 2 ^ (p - 1) → q * 2 ^ j < 2 ^ (R + p - 2 + suc R)
   in-range l = go (place j R)
     where
       go : Place j R → q * 2 ^ j < 2 ^ (R + p - 2 + suc R)
@@ -88,7 +88,7 @@ module _ (p R j q : ℕ) (two : 2 ≤ p) (one : 0 < R) (w : AllDigits p j q) (sm
           subst (λ (y : ℕ). q * 2 ^ j < 2 ^ y) x (shl-lt p j s)
       go (past g) = absurd (omega (arith, h1 (2 * R), mul-le-mul-right (2 ^ (p - 1)) g, all-past p j q R one g w))
 
-  out-range : (2 * R + 1) * 2 ^ (p - 1) ≤ j * 2 ^ (p - 1) + q → 2 ^ (R + p - 2 + suc R) ≤ q * 2 ^ j
+  pub out-range : (2 * R + 1) * 2 ^ (p - 1) ≤ j * 2 ^ (p - 1) + q → 2 ^ (R + p - 2 + suc R) ≤ q * 2 ^ j
   out-range l = go (place j R)
     where
       go : Place j R → 2 ^ (R + p - 2 + suc R) ≤ q * 2 ^ j
@@ -139,3 +139,6 @@ half-sized = record { two = lit≤ tt; one = lit< tt }
 
 pub single-sized : Sized single
 single-sized = record { two = lit≤ tt; one = lit< tt }
+
+pub double-sized : Sized double
+double-sized = record { two = lit≤ tt; one = lit< tt }

@@ -49,7 +49,7 @@ odd-lift d s (suc q) a l c =
     turn a c t = omega arith
 
 -- ---- a power of two moves from the digits to the exponent
-odd-at : (d : ℕ) (s : Bool) (q a l : ℕ) → 0 < q → odd d s q a l ≡ fin s (q / 2 ^ trailingZeros d q) (minus (a + trailingZeros d q) l)
+pub odd-at : (d : ℕ) (s : Bool) (q a l : ℕ) → 0 < q → odd d s q a l ≡ fin s (q / 2 ^ trailingZeros d q) (minus (a + trailingZeros d q) l)
 unfolding odd
 odd-at d s zero a l h = absurd (omega arith)
 odd-at d s (suc q) a l h = refl
@@ -58,7 +58,7 @@ zeros-double : (d q : ℕ) → trailingZeros (suc d) (q * 2) ≡ suc (trailingZe
 unfolding trailingZeros
 zeros-double d q = ap (λ (x : ℕ). under x (trailingZeros d (q * 2 / 2))) (mul-mod-left q 2) ∙ ap (λ (x : ℕ). suc (trailingZeros d x)) (mul-div-cancel q (lit< tt))
 
-odd-double : (d : ℕ) (s : Bool) (q a l : ℕ) → odd (suc d) s (q * 2) a l ≡ odd d s q (suc a) l
+pub odd-double : (d : ℕ) (s : Bool) (q a l : ℕ) → odd (suc d) s (q * 2) a l ≡ odd d s q (suc a) l
 unfolding odd
 odd-double d s zero a l = refl
 odd-double d s (suc q) a l =

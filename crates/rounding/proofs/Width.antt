@@ -39,7 +39,7 @@ bits-lt k sized (inf s) = two s (full k * hidden k) (hidden k) (signed k) (under
     two false a h t e p = omega arith
 bits-lt k sized (fin s m e) = round-lt k sized s (m * up e) (down e)
 
-drop-sign : (s : Bool) (t q : ℕ) → q < t → (cond s t 0 + q) % t ≡ q
+pub drop-sign : (s : Bool) (t q : ℕ) → q < t → (cond s t 0 + q) % t ≡ q
 drop-sign true t q h = add-mod-left t q ∙ mod-eq-of-lt h
 drop-sign false t q h = ap (λ (x : ℕ). x % t) (zero-add q) ∙ mod-eq-of-lt h
 

@@ -1,9 +1,11 @@
--- 01, Operators: a float `+ - * /` is the exact result rounded once; `%` is exact, which `proofs/Remainder.antt` shows; comparisons as in IEEE 754. Assumes nothing.
+-- 01, Operators: a float `+ - * /` is the exact result rounded once, which `Rounded.antt` puts into words; `%` is exact, which `proofs/Remainder.antt` shows.
+-- Clause by clause these are the operators of the language's own `lib.Ieee`, which has F32 and F64, over any kind; `proofs/Same.antt` shows it for the two.
+-- `neg`, `==`, `!=`, `<` and `<=` know no kind, and are `lib.Ieee`'s themselves. Assumes nothing.
 use Prim.Native.Nat.{ℕ, _+_, _-_, _*_, _%_}
-use mathlib.Core.Bool.{Bool, false, not, _&&_, Bool·beq, cond}
+use mathlib.Core.Bool.{Bool, _&&_, Bool·beq, cond}
 use lib.IntN.{pos}
 use lib.Dec.{ltb, eqb}
-use lib.Ieee.{Float, nan, inf, fin, up, down, unlike, neg, below, level}
+use lib.Ieee.{Float, nan, inf, fin, up, down, unlike, neg}
 use Rattle.rounding.specs.Kind.{Kind, roundTo}
 
 -- ±a / c plus ±b / c; an exact cancellation is +0
@@ -54,22 +56,3 @@ rem k (inf s) y = nan
 rem k (fin s m e) nan = nan
 rem k (fin s m e) (inf t) = fin s m e
 rem k (fin s m e) (fin t n d) = cond (eqb n 0) nan (roundTo k s (m * up e * down d % (n * up d * down e)) (down e * down d))
-
--- `==` and `<` of two values, of whatever kinds: -0 equals +0, and a NaN is neither equal to nor below anything
-unfoldable pub eq : Float → Float → Bool
-eq nan y = false
-eq (inf s) nan = false
-eq (inf s) (inf t) = Bool·beq s t
-eq (inf s) (fin t n d) = false
-eq (fin s m e) nan = false
-eq (fin s m e) (inf t) = false
-eq (fin s m e) (fin t n d) = level s (m * up e * down d) t (n * up d * down e)
-
-unfoldable pub lt : Float → Float → Bool
-lt nan y = false
-lt (inf s) nan = false
-lt (inf s) (inf t) = s && not t
-lt (inf s) (fin t n d) = s
-lt (fin s m e) nan = false
-lt (fin s m e) (inf t) = not t
-lt (fin s m e) (fin t n d) = below s (m * up e * down d) t (n * up d * down e)

@@ -1,9 +1,12 @@
--- Bit patterns of a kind: the sign, the exponent's field, and the digits below the leading one. Assumes nothing.
+-- Bit patterns of a kind: the sign, the exponent's field, and the digits below the leading one. Clause by clause these are the patterns of the language's
+-- own `lib.Ieee`, which has F32 and F64, over any kind (`proofs/Same.antt`). Assumes nothing.
 use Prim.Native.Nat.{ℕ, zero, suc, _+_, _-_, _*_, _/_, _%_, _^_}
-use mathlib.Core.Bool.{Bool, true, false, cond}
+use mathlib.Core.Bool.{Bool, cond}
 use lib.Dec.{leb, eqb}
 use lib.Ieee.{Float, nan, inf, fin, up, down, size, odd}
 use Rattle.rounding.specs.Kind.{Kind, least}
+-- neither a NaN nor an infinity
+pub use lib.Ieee.Scale.{finite}
 
 -- the weight of the exponent's field, the field of an infinity or a NaN, and the weight of the sign
 abbrev pub hidden : Kind → ℕ
@@ -35,8 +38,3 @@ toBits k (fin s m e) =
     let n = m * up e * 2 ^ least k / down e in
     let j = size n - k .digits in
     cond s (signed k) 0 + j * hidden k + n / 2 ^ j
-
-abbrev pub finite : Float → Bool
-finite nan = false
-finite (inf s) = false
-finite (fin s m e) = true

@@ -1,5 +1,6 @@
 -- A kind of binary float and what rounding to it gives: one text for F16, F32 and F64, stated over whole numbers.
--- A float is `nan`, `inf s` or `fin s m e`: the whole number m times 2 ^ e, negative where s is true. Assumes nothing.
+-- A float is `nan`, `inf s` or `fin s m e`: the whole number m times 2 ^ e, negative where s is true. The values, and rounding clause by clause, are those of
+-- the language's own `lib.Ieee`, which has F32 and F64 (`proofs/Same.antt`); F16 asks for any kind. `Nearest.antt` and `Rounded.antt` say what it means. Assumes nothing.
 use Prim.Native.Nat.{ℕ, suc, _+_, _-_, _*_, _/_, _^_}
 use mathlib.Core.Bool.{Bool, true, false, cond}
 use lib.IntN.{ℤ, pos, negsuc}

@@ -3,4 +3,5 @@ pub mod Kind
 pub mod Arithmetic
 pub mod Bits
 pub mod Nearest
+pub mod Rounded
 pub mod Pack

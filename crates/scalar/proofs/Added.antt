@@ -36,6 +36,7 @@ use Rattle.arithmetic.proofs.Arms.{half-arm}
 use Rattle.types.proofs.Choice.{picked, passed, both}
 use Rattle.arithmetic.proofs.Negated.{half-reads}
 use Rattle.value.proofs.Sound.{bits-proper, kept-once}
+use Rattle.value.specs.Refusals as No
 
 -- ---- by two steps
 module _ (stage ty sum l r : ℕ) {a : Step} (e : a ≡ stepOf 5 stage ty l r) where
@@ -56,7 +57,7 @@ checkedOf s f n ty b = pick (s && not f) (S.Refused (refusal n 0)) (S.Bits ty b)
 
 -- the same of a sum, after the refusal of a product that is not finite (f)
 abbrev outcomeOf : Bool → Bool → Bool → ℕ → ℕ → Step
-outcomeOf s f g ty b = pick (s && not f) (S.Refused (refusal 6 0)) (checkedOf s g 4 ty b)
+outcomeOf s f g ty b = pick (s && not f) (S.Refused (refusal No.MulOverflow 0)) (checkedOf s g 4 ty b)
 
 -- a float result, as `+` and `*` settle it
 abbrev checked : Bool → Result → Scalar → Result
@@ -115,8 +116,8 @@ module _ {X : Type 0} {make : X → Scalar} {read : ℕ → X} {by : (Kind → F
         → o ≡ outcomeOf s f g ty b → o ≡ productAdded stage ty sum l r
     unfolding productAdded stepOf
     by-kernel sum d sq back a {f = f} e g k c =
-        c ∙ ap (pick (s && not f) (S.Refused (refusal 6 0))) (worked _+ℤ_ add (answerOf AddOverflow) sum (bitsOf (make p)) (found sum d sq) back a g k)
-        ∙ goes-on (s && not f) (refusal 6 0) ty (bitsOf (make p)) (stepOf 3 stage ty sum) ∙ ap (λ (a : Step). onBits a (stepOf 3 stage ty sum)) (product e refl)
+        c ∙ ap (pick (s && not f) (S.Refused (refusal No.MulOverflow 0))) (worked _+ℤ_ add (answerOf AddOverflow) sum (bitsOf (make p)) (found sum d sq) back a g k)
+        ∙ goes-on (s && not f) (refusal No.MulOverflow 0) ty (bitsOf (make p)) (stepOf 3 stage ty sum) ∙ ap (λ (a : Step). onBits a (stepOf 3 stage ty sum)) (product e refl)
 
 -- ---- in F32 and F64, where a product is read back because it fits
 module _ (g : Format) {make : Float → Scalar} {w : Width} {stage ty : ℕ} {s : Bool} (h : Works make (ofBits (of g)) (λ f. f (of g)) w stage ty s)

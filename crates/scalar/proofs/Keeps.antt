@@ -36,40 +36,42 @@ use Rattle.value.specs.declared.Found.the-variants.{Value, Nothing}
 use Rattle.value.specs.declared.Pair.{Pair}
 use Rattle.value.specs.declared.Pair.the-variants as P
 use Rattle.value.specs.Answer.{Result, value, refused, refusal, answerOf, strict}
-use Rattle.value.specs.Scalar.{typeOf, finiteOf}
+use Rattle.value.specs.Scalar.{typeOf, finiteOf, keptScalar}
 use Rattle.arithmetic.specs.Arithmetic.{inExec, finiteOr, settled, wholeOr, halfOf, arithmetic, addOf, subOf, mulOf, noDiv, divOf, noRem, remOf, negOf}
 use Rattle.relation.specs.Logical.{logical, notOf}
 use Rattle.relation.specs.Comparison.{equality, order, numbersOf}
 use Rattle.bitwise.specs.Bits.{bitNotOf, signedBits, bitwise, bitOrOf, bitAndOf, bitXorOf}
 use Rattle.bitwise.specs.Shift.{shlExact, shlWrapped, shrExact, shrReduced, shlBy, shrBy, byCount, shlOf, shrOf}
-use Rattle.value.proofs.Sound.{Sound, Couple, bits-fit}
+use Rattle.value.specs.Refusals as No
+use Rattle.value.proofs.Sound.{Sound, OfType, Couple, bits-fit, kept-sound}
 use Rattle.arithmetic.proofs.Negated.{sign-set, sign-cleared, half-nan}
 
--- a refusal: its number 1, 2 or 4 to 10, its detail 0 but for the shifts'
+-- a refusal: its number 1, 2 or 4 to 10, its detail 0 but for the shifts', whose count is a U32
 pub record Refuses (r : Refusal) : Type 0 where
   pub low : 1 ≤ r .number
   pub high : r .number ≤ 10
   pub shapeless : r .number ≡ 3 → ⊥
   pub plain : (r .number ≡ 9 → ⊥) → (r .number ≡ 10 → ⊥) → r .detail ≡ 0
+  pub small : r .detail < 4294967296
 
 abbrev pub Kept : ℕ → Result → Type 0
 Kept ty (value s) = (typeOf s ≡ ty) × Sound s
 Kept ty (refused r) = Refuses r
 
 plainly : (n : ℕ) → 1 ≤ n → n ≤ 10 → (n ≡ 3 → ⊥) → Refuses (refusal n 0)
-plainly n l h s = record { low = l; high = h; shapeless = s; plain = λ a b. refl }
+plainly n l h s = record { low = l; high = h; shapeless = s; plain = λ a b. refl; small = omega arith }
 
-pub no-unary : Refuses (refusal 1 0)
+pub no-unary : Refuses (refusal No.Unary 0)
 no-unary = plainly 1 (omega arith) (omega arith) (λ e. omega arith)
 
-pub no-binary : Refuses (refusal 2 0)
+pub no-binary : Refuses (refusal No.Binary 0)
 no-binary = plainly 2 (omega arith) (omega arith) (λ e. omega arith)
 
-over-left : (n : ℕ) → Refuses (refusal 9 n)
-over-left n = record { low = omega arith; high = omega arith; shapeless = λ e. omega arith; plain = λ a b. absurd (a refl) }
+over-left : (n : ℕ) → n < 4294967296 → Refuses (refusal No.ShlOverflow n)
+over-left n z = record { low = omega arith; high = omega arith; shapeless = λ e. omega arith; plain = λ a b. absurd (a refl); small = z }
 
-over-right : (n : ℕ) → Refuses (refusal 10 n)
-over-right n = record { low = omega arith; high = omega arith; shapeless = λ e. omega arith; plain = λ a b. absurd (b refl) }
+over-right : (n : ℕ) → n < 4294967296 → Refuses (refusal No.ShrOverflow n)
+over-right n z = record { low = omega arith; high = omega arith; shapeless = λ e. omega arith; plain = λ a b. absurd (b refl); small = z }
 
 -- ---- by a test
 pub chosen : (ty : ℕ) (t : Bool) (a b : Result) → (t ≡ true → Kept ty a) → (t ≡ false → Kept ty b) → Kept ty (pick t a b)
@@ -159,10 +161,10 @@ sub-kept = arithmetic-kept _-ℤ_ sub sub-fit (answerOf SubOverflow) (λ ty. pla
 pub mul-kept : (stage : ShaderStage) (ty : ℕ) (p : Pair) → Couple ty p → Kept ty (mulOf stage p)
 mul-kept = arithmetic-kept _*ℤ_ mul mul-fit (answerOf MulOverflow) (λ ty. plainly 6 (omega arith) (omega arith) (λ e. omega arith))
 
-no-div : Refuses (refusal 7 0)
+no-div : Refuses (refusal No.DivByZero 0)
 no-div = plainly 7 (omega arith) (omega arith) (λ e. omega arith)
 
-no-rem : Refuses (refusal 8 0)
+no-rem : Refuses (refusal No.RemZeroDiv 0)
 no-rem = plainly 8 (omega arith) (omega arith) (λ e. omega arith)
 
 pub div-kept : (stage : ShaderStage) (ty : ℕ) (p : Pair) → Couple ty p → Kept ty (divOf stage p)
@@ -183,8 +185,8 @@ div-kept stage ty (P.F32 x y) h =
     finite-or ty (F32 (div single x y)) (noDiv stage (F32 x)) (sym (h .0), div-fit binary32 x y)
     (exec ty stage (answerOf DivByZero) (F32 x) no-div (sym (h .0), h .1 .0))
 div-kept stage ty (P.F16 x y) h =
-    finite-or ty (halfOf div x y) (noDiv stage (F16 x)) (sym (h .0), rounded-half (div single (ofBits half x) (ofBits half y)))
-    (exec ty stage (answerOf DivByZero) (F16 x) no-div (sym (h .0), h .1 .0))
+    finite-or ty (halfOf div x y) (noDiv stage (keptScalar (F16 x))) (sym (h .0), rounded-half (div single (ofBits half x) (ofBits half y)))
+    (exec ty stage (answerOf DivByZero) (keptScalar (F16 x)) no-div (sym (h .0), kept-sound (F16 x) (h .1 .0)))
 div-kept stage ty P.None h = no-binary
 
 zero-fits : (w : Width) → SFits w (pos 0)
@@ -297,19 +299,19 @@ module _ (ty : ℕ) where
   inside true b e = absurd (mathlib.Core.Bool.false≢true (sym e))
   inside false b e = not-false b e
 
-  exact-kept : (s : Scalar) (n : ℕ) → (typeOf s ≡ ty) × Sound s → Kept ty (shlExact s n)
-  exact-kept (bool x) n h = no-binary
-  exact-kept (AbstractInt x) n h =
-      chosen ty (inSigned w64 (x *ℤ pos (2 ^ n))) (value (AbstractInt (x *ℤ pos (2 ^ n)))) (refused (refusal 9 n)) (λ e. (h .0, signed-in w64 (x *ℤ pos (2 ^ n)) e)) (λ e. over-left n)
-  exact-kept (AbstractFloat x) n h = no-binary
-  exact-kept (I32 x) n h =
-      chosen ty (shlOver w32 x n) (refused (refusal 9 n)) (value (I32 (x *ℤ pos (2 ^ n)))) (λ e. over-left n)
+  exact-kept : (s : Scalar) (n : ℕ) → n < 4294967296 → (typeOf s ≡ ty) × Sound s → Kept ty (shlExact s n)
+  exact-kept (bool x) n z h = no-binary
+  exact-kept (AbstractInt x) n z h =
+      chosen ty (inSigned w64 (x *ℤ pos (2 ^ n))) (value (AbstractInt (x *ℤ pos (2 ^ n)))) (refused (refusal No.ShlOverflow n)) (λ e. (h .0, signed-in w64 (x *ℤ pos (2 ^ n)) e)) (λ e. over-left n z)
+  exact-kept (AbstractFloat x) n z h = no-binary
+  exact-kept (I32 x) n z h =
+      chosen ty (shlOver w32 x n) (refused (refusal No.ShlOverflow n)) (value (I32 (x *ℤ pos (2 ^ n)))) (λ e. over-left n z)
       (λ e. (h .0, signed-in w32 (x *ℤ pos (2 ^ n)) (inside (leb 32 n) (inSigned w32 (x *ℤ pos (2 ^ n))) e)))
-  exact-kept (U32 x) n h =
-      chosen ty (shlOverU w32 x n) (refused (refusal 9 n)) (value (U32 (x * 2 ^ n))) (λ e. over-left n)
+  exact-kept (U32 x) n z h =
+      chosen ty (shlOverU w32 x n) (refused (refusal No.ShlOverflow n)) (value (U32 (x * 2 ^ n))) (λ e. over-left n z)
       (λ e. (h .0, record { fits = ltb-true (x * 2 ^ n) 4294967296 (inside (leb 32 n) (inUnsigned w32 (x * 2 ^ n)) e) }))
-  exact-kept (F32 x) n h = no-binary
-  exact-kept (F16 x) n h = no-binary
+  exact-kept (F32 x) n z h = no-binary
+  exact-kept (F16 x) n z h = no-binary
 
   wrapped-kept : (s : Scalar) (n : ℕ) → (typeOf s ≡ ty) × Sound s → Kept ty (shlWrapped s n)
   wrapped-kept (bool x) n h = no-binary
@@ -320,14 +322,14 @@ module _ (ty : ℕ) where
   wrapped-kept (F32 x) n h = no-binary
   wrapped-kept (F16 x) n h = no-binary
 
-  floor-kept : (s : Scalar) (n : ℕ) → (typeOf s ≡ ty) × Sound s → Kept ty (shrExact s n)
-  floor-kept (bool x) n h = no-binary
-  floor-kept (AbstractInt x) n h = (h .0, sfits-le (mag-shr x (2 ^ n)) (h .1))
-  floor-kept (AbstractFloat x) n h = no-binary
-  floor-kept (I32 x) n h = chosen ty (ltb 31 n) (refused (refusal 10 n)) (value (I32 (shrZ x (2 ^ n)))) (λ e. over-right n) (λ e. (h .0, sfits-le (mag-shr x (2 ^ n)) (h .1)))
-  floor-kept (U32 x) n h = chosen ty (ltb 31 n) (refused (refusal 10 n)) (value (U32 (x / 2 ^ n))) (λ e. over-right n) (λ e. (h .0, fits-div x (2 ^ n) (h .1)))
-  floor-kept (F32 x) n h = no-binary
-  floor-kept (F16 x) n h = no-binary
+  floor-kept : (s : Scalar) (n : ℕ) → n < 4294967296 → (typeOf s ≡ ty) × Sound s → Kept ty (shrExact s n)
+  floor-kept (bool x) n z h = no-binary
+  floor-kept (AbstractInt x) n z h = (h .0, sfits-le (mag-shr x (2 ^ n)) (h .1))
+  floor-kept (AbstractFloat x) n z h = no-binary
+  floor-kept (I32 x) n z h = chosen ty (ltb 31 n) (refused (refusal No.ShrOverflow n)) (value (I32 (shrZ x (2 ^ n)))) (λ e. over-right n z) (λ e. (h .0, sfits-le (mag-shr x (2 ^ n)) (h .1)))
+  floor-kept (U32 x) n z h = chosen ty (ltb 31 n) (refused (refusal No.ShrOverflow n)) (value (U32 (x / 2 ^ n))) (λ e. over-right n z) (λ e. (h .0, fits-div x (2 ^ n) (h .1)))
+  floor-kept (F32 x) n z h = no-binary
+  floor-kept (F16 x) n z h = no-binary
 
   reduced-kept : (s : Scalar) (n : ℕ) → (typeOf s ≡ ty) × Sound s → Kept ty (shrReduced s n)
   reduced-kept (bool x) n h = no-binary
@@ -338,18 +340,18 @@ module _ (ty : ℕ) where
   reduced-kept (F32 x) n h = no-binary
   reduced-kept (F16 x) n h = no-binary
 
-  counted : (count : Found) (by : ℕ → Result) → ((n : ℕ) → Kept ty (by n)) → Kept ty (byCount count by)
-  counted (Value (bool x)) by k = no-binary
-  counted (Value (AbstractInt x)) by k = no-binary
-  counted (Value (AbstractFloat x)) by k = no-binary
-  counted (Value (I32 x)) by k = no-binary
-  counted (Value (U32 n)) by k = k n
-  counted (Value (F32 x)) by k = no-binary
-  counted (Value (F16 x)) by k = no-binary
-  counted Nothing by k = no-binary
+  counted : (count : Found) (by : ℕ → Result) → OfType 4 count → ((n : ℕ) → n < 4294967296 → Kept ty (by n)) → Kept ty (byCount count by)
+  counted (Value (bool x)) by c k = no-binary
+  counted (Value (AbstractInt x)) by c k = no-binary
+  counted (Value (AbstractFloat x)) by c k = no-binary
+  counted (Value (I32 x)) by c k = no-binary
+  counted (Value (U32 n)) by c k = k n (c .1 .fits)
+  counted (Value (F32 x)) by c k = no-binary
+  counted (Value (F16 x)) by c k = no-binary
+  counted Nothing by c k = no-binary
 
-  pub shl-kept : (stage : ShaderStage) (s : Scalar) (count : Found) → (typeOf s ≡ ty) × Sound s → Kept ty (shlOf stage s count)
-  shl-kept stage s count h = counted count (shlBy stage s) (λ n. chosen ty (strict stage) (shlExact s n) (shlWrapped s n) (λ e. exact-kept s n h) (λ e. wrapped-kept s n h))
+  pub shl-kept : (stage : ShaderStage) (s : Scalar) (count : Found) → OfType 4 count → (typeOf s ≡ ty) × Sound s → Kept ty (shlOf stage s count)
+  shl-kept stage s count c h = counted count (shlBy stage s) c (λ n z. chosen ty (strict stage) (shlExact s n) (shlWrapped s n) (λ e. exact-kept s n z h) (λ e. wrapped-kept s n h))
 
-  pub shr-kept : (stage : ShaderStage) (s : Scalar) (count : Found) → (typeOf s ≡ ty) × Sound s → Kept ty (shrOf stage s count)
-  shr-kept stage s count h = counted count (shrBy stage s) (λ n. chosen ty (strict stage) (shrExact s n) (shrReduced s n) (λ e. floor-kept s n h) (λ e. reduced-kept s n h))
+  pub shr-kept : (stage : ShaderStage) (s : Scalar) (count : Found) → OfType 4 count → (typeOf s ≡ ty) × Sound s → Kept ty (shrOf stage s count)
+  shr-kept stage s count c h = counted count (shrBy stage s) c (λ n z. chosen ty (strict stage) (shrExact s n) (shrReduced s n) (λ e. floor-kept s n z h) (λ e. reduced-kept s n h))

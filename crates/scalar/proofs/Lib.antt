@@ -5,6 +5,9 @@ pub mod Keeps
 pub mod Promises
 pub mod Rights
 pub mod Reread
+pub mod Righted
+pub mod Operators
+pub mod Nans
 pub mod Single
 pub mod Impostors
 pub mod Codes

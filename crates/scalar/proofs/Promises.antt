@@ -1,6 +1,6 @@
 -- What the layer above may rely on, of every step and every conversion. Assumes nothing.
 use Prim.Native.Nat.{ℕ, zero, suc, _<_}
-use mathlib.Core.Path.{_≡_, refl, subst}
+use mathlib.Core.Path.{_≡_, refl, subst, _∙_}
 use mathlib.Core.Bool.{Bool, true, false, not, _&&_, _||_, Bool·beq, false≢true}
 use mathlib.Core.List.{List, [], _∷_}
 use native.Mathlib.Omega.{arith}
@@ -8,14 +8,13 @@ use lib.Dec.{eqb, leb}
 use lib.IntN.{ℤ, pos, negsuc, natAbs}
 use lib.Signed.{ltZ, leZ}
 use lib.ListN.{getD}
-use lib.Ieee.{binary32, binary64, fits}
+use lib.Ieee.{binary32, binary64, eq, ne, lt, le, fits}
 use borrow.Author.Tests.{eqb-true, ltb-true, leb-true, lt-leb}
 use mir.Syntax.{w32}
 use mir.Val.{Fits}
 use Rattle.integer.specs.Equal.{eqZ}
 use Rattle.integer.specs.Range.{inSigned}
 use Rattle.rounding.specs.Kind.{half, single, double, convert, ofInteger}
-use Rattle.rounding.specs.Arithmetic.{lt, eq}
 use Rattle.rounding.specs.Bits.{toBits, finite}
 use Rattle.rounding.proofs.Units.{half-sized}
 use Rattle.rounding.proofs.Width.{bits-lt}
@@ -33,15 +32,14 @@ use Rattle.scalar.specs.declared.Conv.{Conv}
 use Rattle.scalar.specs.declared.Conv.the-variants as C
 use Rattle.value.specs.Answer.{Result, value, refused, unary, binary, stageOf}
 use Rattle.value.specs.Pattern.{pick, properOf, keptOf}
-use Rattle.value.specs.Scalar.{typeOf, finiteOf, bitsOf, scalarOf}
-use Rattle.conversion.specs.Convert.{convertTo, targets, inNatural, floatToF32, floatToF16}
+use Rattle.value.specs.Scalar.{typeOf, finiteOf, bitsOf, keptScalar, scalarOf}
+use Rattle.conversion.specs.Convert.{stands, convertTo, targets, inNatural, floatToF32, floatToF16}
 use Rattle.value.specs.Pair.{bothOf}
-use Rattle.relation.specs.Comparison.{le}
 use Rattle.bitwise.specs.Shift.{shlOf, shrOf}
 use Rattle.scalar.specs.Step.{stepped, unaries, unaryOf, onScalar, unaryStepOf, binaries, binaryOf, shiftOf, stepOf, converted, onFound, convOf}
 use Rattle.types.specs.Types.{resultType}
 use Rattle.types.proofs.Choice.{passed}
-use Rattle.value.proofs.Sound.{Sound, OfType, Couple, of-type, found, couple, bits-proper, bits-kept}
+use Rattle.value.proofs.Sound.{Sound, OfType, Couple, of-type, found, couple, bits-proper, bits-kept, kept-sound, kept-type}
 use Rattle.scalar.proofs.Keeps.{Refuses, Kept, chosen, no-unary, no-binary, signed-in}
 use Rattle.scalar.proofs.Keeps.{logical-kept, add-kept, sub-kept, mul-kept, div-kept, rem-kept}
 use Rattle.scalar.proofs.Keeps.{equality-kept, order-kept, bitor-kept, bitand-kept, bitxor-kept, not-kept, neg-kept, bitnot-kept, shl-kept, shr-kept}
@@ -70,7 +68,7 @@ abbrev pub Entries : {X : Type 0} → (ℕ → X → Type 0) → List X → Type
 Entries Q [] R = R
 Entries Q (x ∷ l) R = Q 0 x → Entries (λ i. Q (suc i)) l R
 
-later : {X : Type 0} (Q : ℕ → X → Type 0) (l : List X) {R S : Type 0} → (R → S) → Entries Q l R → Entries Q l S
+pub later : {X : Type 0} (Q : ℕ → X → Type 0) (l : List X) {R S : Type 0} → (R → S) → Entries Q l R → Entries Q l S
 later Q [] f r = f r
 later Q (x ∷ l) f e = λ q. later (λ i. Q (suc i)) l f (e q)
 
@@ -89,15 +87,15 @@ binary-kept op stage ty p h =
     entry (λ i r. Kept (resultType i ty) r) (binary ∷ binaries stage p) binary (λ i. no-binary)
     no-binary (logical-kept _||_ ty p h) (logical-kept _&&_ ty p h)
     (add-kept stage ty p h) (sub-kept stage ty p h) (mul-kept stage ty p h) (div-kept stage ty p h) (rem-kept stage ty p h)
-    (equality-kept eqZ eq Bool·beq p) (equality-kept (λ x y. not (eqZ x y)) (λ x y. not (eq x y)) (λ x y. not (Bool·beq x y)) p)
+    (equality-kept eqZ eq Bool·beq p) (equality-kept (λ x y. not (eqZ x y)) ne (λ x y. not (Bool·beq x y)) p)
     (order-kept ltZ lt p) (order-kept leZ le p) (order-kept (λ x y. ltZ y x) (λ x y. lt y x) p) (order-kept (λ x y. leZ y x) (λ x y. le y x) p)
     (bitor-kept ty p h) (bitand-kept ty p h) (bitxor-kept ty p h) op
 
-shift-kept : (op : ℕ) (stage : ShaderStage) (ty : ℕ) (l count : Found) → OfType ty l → Kept ty (shiftOf op stage l count)
-shift-kept op stage ty (Value s) count h =
-    chosen ty (eqb op 17) (shlOf stage s count) (pick (eqb op 18) (shrOf stage s count) binary) (λ e. shl-kept ty stage s count h)
-    (λ e. chosen ty (eqb op 18) (shrOf stage s count) binary (λ e. shr-kept ty stage s count h) (λ e. no-binary))
-shift-kept op stage ty Nothing count h = no-binary
+shift-kept : (op : ℕ) (stage : ShaderStage) (ty : ℕ) (l count : Found) → OfType ty l → OfType 4 count → Kept ty (shiftOf op stage l count)
+shift-kept op stage ty (Value s) count h c =
+    chosen ty (eqb op 17) (shlOf stage s count) (pick (eqb op 18) (shrOf stage s count) binary) (λ e. shl-kept ty stage s count c h)
+    (λ e. chosen ty (eqb op 18) (shrOf stage s count) binary (λ e. shr-kept ty stage s count c h) (λ e. no-binary))
+shift-kept op stage ty Nothing count h c = no-binary
 
 past-order : (op ty : ℕ) → leb 17 op ≡ true → ty ≡ resultType op ty
 past-order op ty e = passed 0 ty (no-second (leb 8 op) (lt-leb op 13 (omega (arith, leb-true 17 op e))))
@@ -120,7 +118,7 @@ step-answers op stage ty l r = go (leb 17 op) refl
     go : (t : Bool) → leb 17 op ≡ t → Stepped (resultType op ty) (pick t (stepped shift) (stepped (binaryOf op (stageOf stage) pair)))
     go true e =
         subst (λ (t : ℕ). Stepped t (stepped shift)) (past-order op ty e)
-        (steps ty shift (shift-kept op (stageOf stage) ty (scalarOf ty l) (scalarOf 4 r) (of-type ty l)))
+        (steps ty shift (shift-kept op (stageOf stage) ty (scalarOf ty l) (scalarOf 4 r) (of-type ty l) (of-type 4 r)))
     go false e =
         steps (resultType op ty) (binaryOf op (stageOf stage) pair)
         (binary-kept op (stageOf stage) ty pair (couple ty (scalarOf ty l) (scalarOf ty r) (of-type ty l) (of-type ty r)))
@@ -139,13 +137,13 @@ natural-fits : (x : ℤ) → inNatural w32 x ≡ true → Fits w32 (natAbs x)
 natural-fits (pos n) e = record { fits = ltb-true n 4294967296 e }
 natural-fits (negsuc n) e = absurd (false≢true e)
 
-stands-typed : (to : ℕ) (s : Scalar) → Sound s → OfType to (pick (eqb (typeOf s) to) (Value s) Nothing)
-stands-typed to s h = found (eqb (typeOf s) to) s to (λ e. (eqb-true (typeOf s) to e, h))
+stands-typed : (to : ℕ) (s : Scalar) → Sound s → OfType to (stands to s)
+stands-typed to s h = found (eqb (typeOf s) to) (keptScalar s) to (λ e. (kept-type s ∙ eqb-true (typeOf s) to e, kept-sound s h))
 
 half-found : (b : ℕ) → b < 65536 → OfType 6 (pick (finiteOf (F16 b)) (Value (F16 b)) Nothing)
 half-found b h = found (finiteOf (F16 b)) (F16 b) 6 (λ e. (refl, record { fits = h }))
 
-convert-typed : (to : ℕ) (s : Scalar) → Sound s → OfType to (convertTo to s)
+pub convert-typed : (to : ℕ) (s : Scalar) → Sound s → OfType to (convertTo to s)
 convert-typed to (bool x) h = stands-typed to (bool x) h
 convert-typed to (AbstractInt x) h =
     entry (λ i f. OfType i f) (Nothing ∷ targets x) Nothing (λ i. tt) tt (refl, h)

@@ -57,7 +57,7 @@ reread-by ty b s h g c q =
     )
 
 -- of a Bool's two patterns
-truth : (t : Bool) → eqb (pick t 1 0) 1 ≡ t
+pub truth : (t : Bool) → eqb (pick t 1 0) 1 ≡ t
 truth true = refl
 truth false = refl
 
@@ -71,7 +71,7 @@ rereads ty b =
     (λ k h. reread-by 3 b (I32 (toZ w32 b)) h refl refl (λ q. ap (λ (z : ℤ). Value (I32 z)) (toZ-ofZ w32 (toZ w32 b) q)))
     (λ k h. reread-by 4 b (U32 b) h refl refl (λ q. refl))
     (λ k h. reread-by 5 b (F32 (ofBits single b)) h refl refl (λ q. ap (λ x. Value (F32 x)) (bits-back binary32 (ofBits single b) q)))
-    (λ k h. reread-by 6 b (F16 (keptOf 6 b)) h refl refl (λ q. ap (λ (n : ℕ). Value (F16 n)) (kept-once 6 (keptOf 6 b) ∙ kept-once 6 b)))
+    (λ k h. reread-by 6 b (F16 (keptOf 6 b)) h refl (ap (λ (n : ℕ). Value (F16 n)) (kept-once 6 b)) (λ q. ap (λ (n : ℕ). Value (F16 n)) (kept-once 6 (keptOf 6 b) ∙ kept-once 6 b)))
     (λ n k h. absurd (omega arith)) ty
 
 -- ---- one step

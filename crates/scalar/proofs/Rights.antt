@@ -20,6 +20,7 @@ use Rattle.value.specs.Pattern.{pick}
 use Rattle.value.specs.Pair.{bothOf}
 use Rattle.value.specs.Scalar.{typeOf, scalarOf}
 use Rattle.value.proofs.Sound.{OfType, Couple, of-type, couple}
+use Rattle.value.specs.Refusals as No
 use Rattle.relation.specs.Logical.{notOf, orOf, andOf}
 use Rattle.relation.specs.Comparison.{eqOf, neOf, ltOf, leOf, gtOf, geOf}
 use Rattle.arithmetic.specs.Arithmetic.{negOf, addOf, subOf, mulOf, divOf, remOf}
@@ -34,7 +35,7 @@ use Rattle.scalar.proofs.Promises.{entry}
 -- ---- unary operators: a step refuses without the right, and only so, and then with 1
 abbrev pub Righted : Bool → Step → Type 0
 Righted right (S.Bits t b) = right ≡ true
-Righted right (S.Refused r) = r ≡ refusal 1 0
+Righted right (S.Refused r) = r ≡ refusal No.Unary 0
 
 abbrev Rights : ℕ → (Scalar → Result) → Type 0
 Rights op f = (s : Scalar) → Righted (unaryRightOf op (typeOf s)) (stepped (f s))
@@ -145,13 +146,13 @@ shift-lacks op stage ty (Value s) count h t =
     none : byCount count (λ n. pick (strict stage) binary binary) ≡ binary
     none = uncounted stage count
 
-pub rightless : (op stage ty l r : ℕ) → rightOf op ty ≡ false → stepOf op stage ty l r ≡ S.Refused (refusal 2 0)
+pub rightless : (op stage ty l r : ℕ) → rightOf op ty ≡ false → stepOf op stage ty l r ≡ S.Refused (refusal No.Binary 0)
 unfolding stepOf
 rightless op stage ty l r q = go (leb 17 op) refl
   where
     go : (t : Bool) → leb 17 op ≡ t
         → pick t (stepped (shiftOf op (stageOf stage) (scalarOf ty l) (scalarOf 4 r))) (stepped (binaryOf op (stageOf stage) (bothOf (scalarOf ty l) (scalarOf ty r))))
-        ≡ S.Refused (refusal 2 0)
+        ≡ S.Refused (refusal No.Binary 0)
     go true t = ap stepped (shift-lacks op (stageOf stage) ty (scalarOf ty l) (scalarOf 4 r) (of-type ty l) t q)
     go false t =
         ap stepped (binary-lacks op (stageOf stage) ty (bothOf (scalarOf ty l) (scalarOf ty r)) (couple ty (scalarOf ty l) (scalarOf ty r) (of-type ty l) (of-type ty r)) q)

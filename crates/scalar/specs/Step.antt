@@ -16,8 +16,8 @@ pub use Rattle.value.specs.Answer.{refusal}
 use Rattle.value.specs.Answer.{Result, value, refused, unary, binary, stageOf}
 use Rattle.value.specs.Pattern.{pick}
 use Rattle.value.specs.Scalar.{typeOf, bitsOf, scalarOf}
-use Rattle.conversion.specs.Convert.{convertTo}
-use Rattle.value.specs.Pair.{bothOf}
+use Rattle.conversion.specs.Convert.{convertTo, commonOf}
+use Rattle.value.specs.Pair.{pairOf, bothOf}
 use Rattle.relation.specs.Logical.{notOf, orOf, andOf}
 use Rattle.arithmetic.specs.Arithmetic.{negOf, addOf, subOf, mulOf, divOf, remOf}
 use Rattle.bitwise.specs.Bits.{bitNotOf, bitOrOf, bitAndOf, bitXorOf}
@@ -55,6 +55,12 @@ binaryOf op stage p = getD (binary ∷ binaries stage p) op binary
 -- "17 `<<`, 18 `>>`"
 abbrev pub shiftOf : ℕ → ShaderStage → Found → Found → Result
 shiftOf op stage l count = onScalar l (λ s. pick (eqb op 17) (shlOf stage s count) (pick (eqb op 18) (shrOf stage s count) binary)) binary
+
+-- what `op_or` to `op_shr` answer on two scalars, by their codes: "`||`, `&&`: .. No conversion"; "Shifts: the count converts to U32"; all others
+-- take the common type
+abbrev pub operatorOf : ℕ → ShaderStage → Scalar → Scalar → Result
+operatorOf op stage l r =
+    pick (leb 17 op) (shiftOf op stage (F.Value l) (convertTo 4 r)) (binaryOf op stage (pick (leb op 2) (pairOf l r) (commonOf l r)))
 
 -- an operator on two patterns of one type; a shift's right one is a U32's
 unfoldable pub stepOf : ℕ → ℕ → ℕ → ℕ → ℕ → Step

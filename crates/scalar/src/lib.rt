@@ -12,6 +12,7 @@ use value::Pair;
 use value::Refusal;
 use value::ShaderStage;
 use value::pattern;
+use value::refusals;
 use value::stage_of;
 ghost use mathlib.Core.Path.{_≡_};
 ghost use Rattle.value.specs.Answer.{answerOf, refusal, unary};
@@ -42,15 +43,15 @@ fn number(a: Answer) -> u8
 {
     match a {
         Answer::Value(_) => 0,
-        Answer::Unary => 1,
-        Answer::Binary => 2,
-        Answer::AddOverflow => 4,
-        Answer::SubOverflow => 5,
-        Answer::MulOverflow => 6,
-        Answer::DivByZero => 7,
-        Answer::RemZeroDiv => 8,
-        Answer::ShlOverflow(_) => 9,
-        Answer::ShrOverflow(_) => 10,
+        Answer::Unary => refusals::UNARY,
+        Answer::Binary => refusals::BINARY,
+        Answer::AddOverflow => refusals::ADD_OVERFLOW,
+        Answer::SubOverflow => refusals::SUB_OVERFLOW,
+        Answer::MulOverflow => refusals::MUL_OVERFLOW,
+        Answer::DivByZero => refusals::DIV_BY_ZERO,
+        Answer::RemZeroDiv => refusals::REM_ZERO_DIV,
+        Answer::ShlOverflow(_) => refusals::SHL_OVERFLOW,
+        Answer::ShrOverflow(_) => refusals::SHR_OVERFLOW,
     }
 }
 
@@ -60,8 +61,8 @@ fn step_of(a: Answer) -> Step
 {
     match a {
         Answer::Value(s) => Step::Bits(value::type_of(s), pattern::bits_of(s)),
-        Answer::ShlOverflow(n) => refuse(9, n),
-        Answer::ShrOverflow(n) => refuse(10, n),
+        Answer::ShlOverflow(n) => refuse(refusals::SHL_OVERFLOW, n),
+        Answer::ShrOverflow(n) => refuse(refusals::SHR_OVERFLOW, n),
         _ => refuse(number(a), 0),
     }
 }

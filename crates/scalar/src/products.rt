@@ -11,6 +11,7 @@ use rounding::finite_f32;
 use rounding::finite_f64;
 use rounding::finite_half;
 use rounding::half_to_f32;
+use value::refusals;
 ghost use mathlib.Core.Bool.{_&&_, not};
 ghost use mathlib.Core.Path.{_≡_};
 ghost use Rattle.value.specs.Answer.{refusal};
@@ -69,7 +70,7 @@ fn outcome(asked: bool, product: bool, sum: bool, ty: u8, bits: u64) -> Step
     ensures { λ a. ⌜ a ≡ pick (asked && not product) (Step.Refused (refusal 6 0)) (pick (asked && not sum) (Step.Refused (refusal 4 0)) (Step.Bits ty bits)) ⌝ }
 {
     if asked & !product {
-        return refuse(6, 0);
+        return refuse(refusals::MUL_OVERFLOW, 0);
     }
     checked(asked, sum, 4, ty, bits)
 }

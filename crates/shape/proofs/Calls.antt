@@ -10,10 +10,11 @@ use Rattle.operand.proofs.Tests.{both}
 use Rattle.pairing.specs.Pairing.{opKnown, unaryKnown, stageKnown, callFault}
 use Rattle.pairing.proofs.Picks.{no-fault}
 use Rattle.dispatch.specs.Meaning.{refuseUnless, judged, unaryJudged, unaryMeaning, binaryMeaning}
+use Rattle.value.specs.Refusals as No
 
 -- the three checks in front of an operator
 abbrev asked : Bool → Bool → Bool → Outcome → Outcome
-asked k s f o = refuseUnless k 25 (refuseUnless s 23 (refuseUnless f 26 o))
+asked k s f o = refuseUnless k No.BadNode (refuseUnless s No.BadStage (refuseUnless f No.BadValue o))
 
 module _ (k s f : Bool) (n : ℕ) (e : n ≡ callFault k s f) (v o : Outcome) where
   faulty : (n ≡ 0 → ⊥) → v ≡ refusedWith n 0 → v ≡ asked k s f o
@@ -24,9 +25,9 @@ module _ (k s f : Bool) (n : ℕ) (e : n ≡ callFault k s f) (v o : Outcome) wh
 
       go : (k s f : Bool) → n ≡ callFault k s f → v ≡ asked k s f o
       go true true true z = absurd (h z)
-      go true true false z = numbered 26 z
-      go true false f z = numbered 23 z
-      go false s f z = numbered 25 z
+      go true true false z = numbered No.BadValue z
+      go true false f z = numbered No.BadStage z
+      go false s f z = numbered No.BadNode z
 
   faultless : n ≡ 0 → v ≡ o → v ≡ asked k s f o
   faultless z q = let h = no-fault k s f (sym e ∙ z) in rw (h .0, h .1, h .2) q
@@ -48,7 +49,7 @@ module _ (op stage : ℕ) (v : Instance) (k f : Bool) (ek : k ≡ unaryKnown op)
   unary-called o z q = faultless (unaryKnown op) (stageKnown stage) (operandFormed v) n fault o (unaryJudged op v) z q
 
 -- both operands at once: the left is judged first, and the right is refused alike
-both-formed : (k s f g : Bool) (o : Outcome) → asked k s (f && g) o ≡ refuseUnless k 25 (refuseUnless s 23 (refuseUnless f 26 (refuseUnless g 26 o)))
+both-formed : (k s f g : Bool) (o : Outcome) → asked k s (f && g) o ≡ refuseUnless k No.BadNode (refuseUnless s No.BadStage (refuseUnless f No.BadValue (refuseUnless g No.BadValue o)))
 both-formed k s true g o = refl
 both-formed k s false g o = refl
 

@@ -15,6 +15,7 @@ use Rattle.value.specs.Pattern.{pick, properOf}
 use Rattle.scalar.specs.Step.{refusal, stepOf, unaryStepOf, convOf}
 use Rattle.scalar.proofs.Rights.{Righted, unary-righted, rightless}
 use Rattle.types.specs.Types.{rightOf, unaryRightOf, resultType}
+use Rattle.value.specs.Refusals as No
 use Rattle.operand.specs.Operand.{shapeOk, shapeOf, isScalar, isMatrix, componentCount, upTo, every, componentAt, operandFormed, aScalar}
 use Rattle.components.specs.Components.{Out, got, stop, allOrRefusal, eachComponent, stepResult, convResult, binaryAt, unaryAt, lane, convertedAt}
 use Rattle.pairing.specs.Pairing.{opKnown, unaryKnown, stageKnown, innerOk, sameShape, pairOk, targetsOf}
@@ -31,7 +32,7 @@ use Rattle.operand.proofs.Tests.{both}
 -- ---- the tests of the code against the definitions
 -- a conversion that fails is Binary, one with bits goes on
 module _ (c d : Conv) (e : c ≡ d) (v : Outcome) (k : ℕ → Outcome) where
-  pub conv-none : c ≡ C.Nothing → v ≡ refusedWith 2 0 → v ≡ onResult (convResult d) k
+  pub conv-none : c ≡ C.Nothing → v ≡ refusedWith No.Binary 0 → v ≡ onResult (convResult d) k
   conv-none h q = rw (← e, h) q
 
   pub conv-bits : (b : ℕ) → c ≡ C.Bits b → v ≡ k b → v ≡ onResult (convResult d) k
@@ -81,51 +82,51 @@ module _ (op stage ty : ℕ) where
       ap (λ (o : Out (List ℕ)). shapedAnswer o (resultType op ty) 1 1) (each-one (binaryAt op stage ty (lane (p ∷ xs) 0 0) (lane (q ∷ ys) 0 0)))
       ∙ answer-one (stepResult (stepOf op stage ty p q)) (resultType op ty)
 
-  checks-one : (xs ys : List ℕ) → onConverted op stage ty unit xs unit ys ≡ refuseUnless (rightOf op ty) 2 (byComponent op stage ty unit xs unit ys)
+  checks-one : (xs ys : List ℕ) → onConverted op stage ty unit xs unit ys ≡ refuseUnless (rightOf op ty) No.Binary (byComponent op stage ty unit xs unit ys)
   unfolding onConverted
   checks-one xs ys = go (eqb op 5)
     where
       go : (t : Bool) → refuseUnless (pick (t && false && false && false) (innerOk unit unit) (sameShape unit unit)) (pick (t && false && false && false) 2 3)
-          (refuseUnless (rightOf op ty) 2 (pick (t && false && false && false) (matrixProduct stage ty unit xs unit ys) (byComponent op stage ty unit xs unit ys)))
-          ≡ refuseUnless (rightOf op ty) 2 (byComponent op stage ty unit xs unit ys)
+          (refuseUnless (rightOf op ty) No.Binary (pick (t && false && false && false) (matrixProduct stage ty unit xs unit ys) (byComponent op stage ty unit xs unit ys)))
+          ≡ refuseUnless (rightOf op ty) No.Binary (byComponent op stage ty unit xs unit ys)
       go true = refl
       go false = refl
 
   -- a step answers for the right as well: without it, it refuses with Binary
   pub operated : (p q : ℕ) → onScalars op stage ty p q ≡ onResult (stepResult (stepOf op stage ty p q)) (scalarAnswer (resultType op ty))
-  operated p q = checks-one _ _ ∙ ap (refuseUnless (rightOf op ty) 2) (component-one p q (replicate 15 0) (replicate 15 0)) ∙ go (rightOf op ty) refl
+  operated p q = checks-one _ _ ∙ ap (refuseUnless (rightOf op ty) No.Binary) (component-one p q (replicate 15 0) (replicate 15 0)) ∙ go (rightOf op ty) refl
     where
-      go : (t : Bool) → rightOf op ty ≡ t → refuseUnless t 2 (onResult (stepResult (stepOf op stage ty p q)) (scalarAnswer (resultType op ty)))
+      go : (t : Bool) → rightOf op ty ≡ t → refuseUnless t No.Binary (onResult (stepResult (stepOf op stage ty p q)) (scalarAnswer (resultType op ty)))
           ≡ onResult (stepResult (stepOf op stage ty p q)) (scalarAnswer (resultType op ty))
       go true e = refl
       go false e = ap (λ (s : Step). onResult (stepResult s) (scalarAnswer (resultType op ty))) (sym (rightless op stage ty p q e))
 
 -- a unary operator on a scalar
-unary-one : (op ty b : ℕ) → unaryJudged op (aScalar ty b) ≡ refuseUnless (unaryRightOf op ty) 1 (onResult (stepResult (unaryStepOf op ty b)) (scalarAnswer ty))
+unary-one : (op ty b : ℕ) → unaryJudged op (aScalar ty b) ≡ refuseUnless (unaryRightOf op ty) No.Unary (onResult (stepResult (unaryStepOf op ty b)) (scalarAnswer ty))
 unfolding unaryJudged
 unary-one op ty b =
-    ap (λ (o : Out (List ℕ)). refuseUnless (unaryRightOf op ty) 1 (shapedAnswer o ty 1 1)) (each-one (unaryAt op ty (aScalar ty b .comps)))
-    ∙ ap (refuseUnless (unaryRightOf op ty) 1) (answer-one (stepResult (unaryStepOf op ty b)) ty)
+    ap (λ (o : Out (List ℕ)). refuseUnless (unaryRightOf op ty) No.Unary (shapedAnswer o ty 1 1)) (each-one (unaryAt op ty (aScalar ty b .comps)))
+    ∙ ap (refuseUnless (unaryRightOf op ty) No.Unary) (answer-one (stepResult (unaryStepOf op ty b)) ty)
 
 -- a unary step answers for the right as well: its refusal is Unary, right or not, and its bits come with the right
 module _ (op ty b : ℕ) (s : Step) (e : s ≡ unaryStepOf op ty b) (t : Step) (h : s ≡ t) where
-  unary-step : refuseUnless (unaryRightOf op ty) 1 (onResult (stepResult t) (scalarAnswer ty)) ≡ unaryJudged op (aScalar ty b)
-  unary-step = ap (λ (t : Step). refuseUnless (unaryRightOf op ty) 1 (onResult (stepResult t) (scalarAnswer ty))) (sym h ∙ e) ∙ sym (unary-one op ty b)
+  unary-step : refuseUnless (unaryRightOf op ty) No.Unary (onResult (stepResult t) (scalarAnswer ty)) ≡ unaryJudged op (aScalar ty b)
+  unary-step = ap (λ (t : Step). refuseUnless (unaryRightOf op ty) No.Unary (onResult (stepResult t) (scalarAnswer ty))) (sym h ∙ e) ∙ sym (unary-one op ty b)
 
   righted : Righted (unaryRightOf op ty) t
   righted = subst (Righted (unaryRightOf op ty)) (sym e ∙ h) (unary-righted op ty b)
 
 module _ (op ty b : ℕ) (s : Step) (e : s ≡ unaryStepOf op ty b) (v : Outcome) where
-  pub unary-refused : (r : Refusal) → s ≡ S.Refused r → v ≡ refusedWith 1 0 → v ≡ unaryJudged op (aScalar ty b)
+  pub unary-refused : (r : Refusal) → s ≡ S.Refused r → v ≡ refusedWith No.Unary 0 → v ≡ unaryJudged op (aScalar ty b)
   unary-refused r h q = q ∙ go (unaryRightOf op ty) (righted op ty b s e (S.Refused r) h) ∙ unary-step op ty b s e (S.Refused r) h
     where
-      go : (t : Bool) → r ≡ refusal 1 0 → refusedWith 1 0 ≡ refuseUnless t 1 (refusedWith (r .number) (r .detail))
+      go : (t : Bool) → r ≡ refusal No.Unary 0 → refusedWith No.Unary 0 ≡ refuseUnless t No.Unary (refusedWith (r .number) (r .detail))
       go true k = ap (λ (r : Refusal). refusedWith (r .number) (r .detail)) (sym k)
       go false k = refl
 
   pub unary-bits : (t x : ℕ) → s ≡ S.Bits t x → v ≡ scalarAnswer ty x → v ≡ unaryJudged op (aScalar ty b)
   unary-bits t x h q =
-      q ∙ ap (λ (p : Bool). refuseUnless p 1 (scalarAnswer ty x)) (sym (righted op ty b s e (S.Bits t x) h)) ∙ unary-step op ty b s e (S.Bits t x) h
+      q ∙ ap (λ (p : Bool). refuseUnless p No.Unary (scalarAnswer ty x)) (sym (righted op ty b s e (S.Bits t x) h)) ∙ unary-step op ty b s e (S.Bits t x) h
 
 -- ---- conversions
 -- two scalars by their types and patterns, their conversions one after the other
@@ -163,7 +164,7 @@ formed-first v p = λ i. shapeOk (v .ty) (p i .cols) (p i .rows) && every (prope
 judged-first : (op stage : ℕ) (l r : Instance) → shapeOf l ≡ unit → shapeOf r ≡ unit → judged op stage l r ≡ judged op stage (first l) (first r)
 unfolding judged
 judged-first op stage l r p q =
-    (λ i. refuseUnless (pairOk op (p i) (q i)) 2 (onTargets (targetsOf op (l .ty) (r .ty)) op stage l r))
+    (λ i. refuseUnless (pairOk op (p i) (q i)) No.Binary (onTargets (targetsOf op (l .ty) (r .ty)) op stage l r))
     ∙ go (targetsOf op (l .ty) (r .ty))
   where
     go : (t : Targets) → onTargets t op stage l r ≡ onTargets t op stage (first l) (first r)
@@ -175,9 +176,9 @@ unfolding unaryJudged
 unary-first op v p =
     let f : ℕ → Out ℕ = unaryAt op (v .ty) (v .comps) in
     let g : ℕ → Out ℕ = unaryAt op (v .ty) (first v .comps) in
-    (λ i. refuseUnless (not (isMatrix (p i))) 1 (refuseUnless (unaryRightOf op (v .ty)) 1
+    (λ i. refuseUnless (not (isMatrix (p i))) No.Unary (refuseUnless (unaryRightOf op (v .ty)) No.Unary
     (shapedAnswer (eachComponent f (componentCount (p i))) (v .ty) (p i .cols) (p i .rows))))
-    ∙ ap (λ (o : Out (List ℕ)). refuseUnless (unaryRightOf op (v .ty)) 1 (shapedAnswer o (v .ty) 1 1)) (each-one f ∙ sym (each-one g))
+    ∙ ap (λ (o : Out (List ℕ)). refuseUnless (unaryRightOf op (v .ty)) No.Unary (shapedAnswer o (v .ty) 1 1)) (each-one f ∙ sym (each-one g))
 
 -- an outcome worked on a scalar is that on the operand
 pub scalar-stands : (op stage : ℕ) (v : Instance) (s : Bool) (o : Outcome) → s ≡ isScalar (shapeOf v) → s ≡ true
@@ -185,7 +186,7 @@ pub scalar-stands : (op stage : ℕ) (v : Instance) (s : Bool) (o : Outcome) →
 unfolding unaryMeaning
 scalar-stands op stage v s o a h e =
     let p : shapeOf v ≡ unit = is-unit (shapeOf v) (sym a ∙ h) in
-    e ∙ sym (λ i. refuseUnless (unaryKnown op) 25 (refuseUnless (stageKnown stage) 23 (refuseUnless (formed-first v p i) 26 (unary-first op v p i))))
+    e ∙ sym (λ i. refuseUnless (unaryKnown op) No.BadNode (refuseUnless (stageKnown stage) No.BadStage (refuseUnless (formed-first v p i) No.BadValue (unary-first op v p i))))
 
 -- an outcome worked on two scalars is that on the operands
 pub scalars-stand : (op stage : ℕ) (l r : Instance) (s t : Bool) (o : Outcome) → s ≡ isScalar (shapeOf l) → t ≡ isScalar (shapeOf r) → (s && t) ≡ true
@@ -195,5 +196,5 @@ scalars-stand op stage l r s t o a b h e =
     let k = both s t h in
     let p : shapeOf l ≡ unit = is-unit (shapeOf l) (sym a ∙ k .0) in
     let q : shapeOf r ≡ unit = is-unit (shapeOf r) (sym b ∙ k .1) in
-    e ∙ sym (λ i. refuseUnless (opKnown op) 25 (refuseUnless (stageKnown stage) 23
-    (refuseUnless (formed-first l p i) 26 (refuseUnless (formed-first r q i) 26 (judged-first op stage l r p q i)))))
+    e ∙ sym (λ i. refuseUnless (opKnown op) No.BadNode (refuseUnless (stageKnown stage) No.BadStage
+    (refuseUnless (formed-first l p i) No.BadValue (refuseUnless (formed-first r q i) No.BadValue (judged-first op stage l r p q i)))))

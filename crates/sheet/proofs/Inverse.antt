@@ -7,6 +7,7 @@ use native.Mathlib.Omega.{arith}
 use lib.ListN.{length, getD, replicate}
 use lib.Dec.{eqb}
 use borrow.Author.Tests.{ltb-true, leb-true, eqb-true, eqb-false}
+use Rattle.value.specs.Refusals as No
 use Rattle.operand.specs.declared.Instance.{Instance}
 use Rattle.sheet.specs.declared.Literal.{Literal}
 use Rattle.sheet.specs.declared.literals.LiteralHead.{LiteralHead}
@@ -50,7 +51,7 @@ OperandAt levels stages own b at t n = readNode (levels - 1) stages own b at ≡
 module _ (levels : ℕ) (stages : List ℕ) (own : ℕ) (b : List ℕ) (at : ℕ) (t : Expr) (n : ℕ) (e : readNode levels stages own b at ≡ found t n) where
   pub some-level : levels ≡ 0 → ⊥
   unfolding readNode
-  some-level q = never 28 at t n (sym (ap (λ (k : ℕ). readNode k stages own b at) q) ∙ e)
+  some-level q = never No.TooDeep at t n (sym (ap (λ (k : ℕ). readNode k stages own b at) q) ∙ e)
 
   opened : (there b at 1 ≡ true) × (onTag (tagOf (getD b at 0)) (readNode (levels - 1) stages own b) stages own b at ≡ found t n)
   opened = must-found _ _ _ _ t n (sym (open-node levels stages own b at some-level) ∙ e)
@@ -71,7 +72,7 @@ module _ (levels : ℕ) (stages : List ℕ) (own : ℕ) (b : List ℕ) (at : ℕ
     where
       go : (g : Bool) → eqb (getD b at 0) 4 ≡ g → getD b at 0 ≡ 4
       go true q = eqb-true (getD b at 0) 4 q
-      go false q = absurd (never 25 at t n (tagged unknown (tag-unknown (getD b at 0) x y z (eqb-false (getD b at 0) 4 q))))
+      go false q = absurd (never No.BadNode at t n (tagged unknown (tag-unknown (getD b at 0) x y z (eqb-false (getD b at 0) 4 q))))
 
   pub literal-read : getD b at 0 ≡ 1 → (v : Instance) × (readLiteral false b at ≡ found v n) × (t ≡ literal v)
   unfolding onTag tagOf

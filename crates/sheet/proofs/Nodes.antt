@@ -15,6 +15,7 @@ use Rattle.sheet.specs.Tree.{Expr, literal, reference, unary, binary}
 use Rattle.sheet.specs.Node.{literalHead, literalCount, literalOk, allProper, readComponents, readLiteral, readReference, operatorKnown, operands, readOperator}
 use Rattle.sheet.specs.Node.{Tag, isLiteral, isReference, isOperator, unknown, tagOf, onTag, readNode}
 use Rattle.sheet.proofs.Reading.{was-read, was-refused, seen-as, must-is}
+use Rattle.value.specs.Refusals as No
 
 -- ---- what is read from a place on ends past it and within the body, and a refusal's place is in the body or just past it
 unfoldable pub Within : {A : Type 0} → List ℕ → ℕ → Read A → Type 0
@@ -78,11 +79,11 @@ module _ (b : List ℕ) (below : ℕ → Read Expr) (h : AllWithin b below) (at 
   within-tag isLiteral stages own l = within-as b at at _ _ (omega arith) (within-literal false b at l)
   within-tag isReference stages own l = within-reference stages own b at l
   within-tag (isOperator two) stages own l = within-operator two l
-  within-tag unknown stages own l = within-no b at 25 at l
+  within-tag unknown stages own l = within-no b at No.BadNode at l
 
 pub within-node : (levels : ℕ) (stages : List ℕ) (own : ℕ) (b : List ℕ) → AllWithin b (readNode levels stages own b)
 unfolding readNode
-within-node zero stages own b at l = within-no b at 28 at l
+within-node zero stages own b at l = within-no b at No.TooDeep at l
 within-node (suc levels) stages own b at l =
     within-must b at _ _ _ _ (omega arith) (λ _. within-tag b (readNode levels stages own b) (within-node levels stages own b) at _ stages own l)
 
@@ -130,7 +131,7 @@ module _ (levels : ℕ) (stages : List ℕ) (own : ℕ) (b : List ℕ) (at : ℕ
   seen-binary q = ap seenOf (node-at levels stages own b at h l (isOperator true) (ap tagOf q))
 
   pub seen-unknown : (getD b at 0 ≡ 1 → ⊥) → (getD b at 0 ≡ 2 → ⊥) → (getD b at 0 ≡ 3 → ⊥) → (getD b at 0 ≡ 4 → ⊥)
-      → seenOf (readNode levels stages own b at) ≡ Refused 25 at
+      → seenOf (readNode levels stages own b at) ≡ Refused No.BadNode at
   unfolding onTag
   seen-unknown w x y z = ap seenOf (node-at levels stages own b at h l unknown (tag-unknown (getD b at 0) w x y z))
 
@@ -149,19 +150,19 @@ module _ (place op : ℕ) (below : ℕ → Read Expr) (at : ℕ) where
   seen-two-not k p e = rw (was-refused (below at) k p e)
 
 module _ (two : Bool) (below : ℕ → Read Expr) (b : List ℕ) (at : ℕ) where
-  pub operator-cut : length b < at + 2 → Refused 22 (length b) ≡ seenOf (readOperator two below b at)
+  pub operator-cut : length b < at + 2 → Refused No.CutShort (length b) ≡ seenOf (readOperator two below b at)
   unfolding readOperator must
   operator-cut l = simp (lt-leb (at + 2) (length b) l)
 
   -- g is the answer of the test of the operator
   module _ (l : at + 2 ≤ length b) (g : Bool) (q : g ≡ operatorKnown two (getD b (at + 1) 0)) where
-    by-operator : readOperator two below b at ≡ must g (refused 25 at) (operands two at (getD b (at + 1) 0) below (at + 2))
+    by-operator : readOperator two below b at ≡ must g (refused No.BadNode at) (operands two at (getD b (at + 1) 0) below (at + 2))
     unfolding readOperator
     by-operator =
         must-is _ _ _ _ _ (le-leb (at + 2) (length b) l)
-        (ap (λ (x : Bool). must x (refused 25 at) (operands two at (getD b (at + 1) 0) below (at + 2))) (sym q))
+        (ap (λ (x : Bool). must x (refused No.BadNode at) (operands two at (getD b (at + 1) 0) below (at + 2))) (sym q))
 
-    pub operator-bad : g ≡ false → Refused 25 at ≡ seenOf (readOperator two below b at)
+    pub operator-bad : g ≡ false → Refused No.BadNode at ≡ seenOf (readOperator two below b at)
     unfolding must
     operator-bad f = sym (ap seenOf by-operator ∙ rw f)
 
@@ -182,19 +183,19 @@ module _ (two : Bool) (below : ℕ → Read Expr) (b : List ℕ) (at : ℕ) wher
 
 -- ---- a literal, as the code goes: h is its head, n its number of components, g and p answer the tests of its head and of its components
 module _ (setting : Bool) (b : List ℕ) (at : ℕ) where
-  pub literal-cut : length b < at + 4 → Refused 22 (length b) ≡ seenOf (readLiteral setting b at)
+  pub literal-cut : length b < at + 4 → Refused No.CutShort (length b) ≡ seenOf (readLiteral setting b at)
   unfolding readLiteral must
   literal-cut l = simp (lt-leb (at + 4) (length b) l)
 
   module _ (h : LiteralHead) (e : h ≡ literalHead b at) (l : at + 4 ≤ length b) (g : Bool) (ok : g ≡ literalOk setting h) where
-    by-head : readLiteral setting b at ≡ must g (refused 26 at) (readComponents h (h .cols * h .rows) b at)
+    by-head : readLiteral setting b at ≡ must g (refused No.BadValue at) (readComponents h (h .cols * h .rows) b at)
     unfolding readLiteral
     by-head =
         must-is _ _ _ _ _ (le-leb (at + 4) (length b) l)
-        (ap (λ (x : LiteralHead). must (literalOk setting x) (refused 26 at) (readComponents x (x .cols * x .rows) b at)) (sym e)
-        ∙ ap (λ (x : Bool). must x (refused 26 at) (readComponents h (h .cols * h .rows) b at)) (sym ok))
+        (ap (λ (x : LiteralHead). must (literalOk setting x) (refused No.BadValue at) (readComponents x (x .cols * x .rows) b at)) (sym e)
+        ∙ ap (λ (x : Bool). must x (refused No.BadValue at) (readComponents h (h .cols * h .rows) b at)) (sym ok))
 
-    pub literal-shape : g ≡ false → Refused 26 at ≡ seenOf (readLiteral setting b at)
+    pub literal-shape : g ≡ false → Refused No.BadValue at ≡ seenOf (readLiteral setting b at)
     unfolding must
     literal-shape f = sym (ap seenOf by-head ∙ rw f)
 
@@ -202,12 +203,12 @@ module _ (setting : Bool) (b : List ℕ) (at : ℕ) where
       by-components : readLiteral setting b at ≡ readComponents h n b at
       by-components = by-head ∙ must-is _ _ _ _ _ f (ap (λ (k : ℕ). readComponents h k b at) (sym q))
 
-      pub literal-short : length b < at + 4 + 8 * n → Refused 22 (length b) ≡ seenOf (readLiteral setting b at)
+      pub literal-short : length b < at + 4 + 8 * n → Refused No.CutShort (length b) ≡ seenOf (readLiteral setting b at)
       unfolding must
       literal-short k = sym (ap seenOf by-components ∙ simp (lt-leb (at + 4 + 8 * n) (length b) k))
 
       module _ (k : at + 4 + 8 * n ≤ length b) (p : Bool) (w : p ≡ allProper (h .ty) n b (at + 4)) where
-        pub literal-bad : p ≡ false → Refused 26 at ≡ seenOf (readLiteral setting b at)
+        pub literal-bad : p ≡ false → Refused No.BadValue at ≡ seenOf (readLiteral setting b at)
         unfolding must
         literal-bad z = sym (ap seenOf by-components ∙ simp (le-leb (at + 4 + 8 * n) (length b) k, ← w, z))
 
@@ -222,11 +223,11 @@ module _ (stages : List ℕ) (own : ℕ) (b : List ℕ) (at : ℕ) where
   reference-cut l = simp (lt-leb (at + 2) (length b) l)
 
   module _ (l : at + 2 ≤ length b) where
-    pub reference-late : length stages ≤ getD b (at + 1) 0 → readReference stages own b at ≡ refused 27 at
+    pub reference-late : length stages ≤ getD b (at + 1) 0 → readReference stages own b at ≡ refused No.BadRef at
     unfolding readReference must
     reference-late h = simp (le-leb (at + 2) (length b) l, le-ltb _ _ h)
 
-    pub reference-above : getD b (at + 1) 0 < length stages → own < getD stages (getD b (at + 1) 0) 0 → readReference stages own b at ≡ refused 23 at
+    pub reference-above : getD b (at + 1) 0 < length stages → own < getD stages (getD b (at + 1) 0) 0 → readReference stages own b at ≡ refused No.BadStage at
     unfolding readReference must
     reference-above h k = simp (le-leb (at + 2) (length b) l, lt-ltb _ _ h, lt-leb _ _ k)
 

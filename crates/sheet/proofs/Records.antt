@@ -8,6 +8,7 @@ use lib.ListN.{length, getD, take, drop, length-take, length-drop}
 use lib.Dec.{leb, eqb}
 use borrow.Author.Tests.{leb-true, le-leb, lt-leb, eq-eqb, ne-eqb}
 use Rattle.value.specs.Pattern.{pick}
+use Rattle.value.specs.Refusals as No
 use Rattle.sheet.specs.declared.Head.{Head}
 use Rattle.sheet.specs.declared.Head.the-variants as head
 use Rattle.sheet.specs.declared.Passed.the-variants as passed
@@ -35,32 +36,32 @@ module _ (s : List ℕ) (start len : ℕ) where
 
 -- ---- the five bytes before a body
 module _ (s : List ℕ) (at : ℕ) where
-  pub head-cut : length s < at + 5 → head.Refused 22 (length s) ≡ readHead s at
+  pub head-cut : length s < at + 5 → head.Refused No.CutShort (length s) ≡ readHead s at
   unfolding readHead must
   head-cut l = simp (lt-leb (at + 5) (length s) l)
 
   module _ (l : at + 5 ≤ length s) where
-    pub head-mark : eqb (getD s at 0) 213 && eqb (getD s (at + 1) 0) 23 ≡ false → head.Refused 21 at ≡ readHead s at
+    pub head-mark : eqb (getD s at 0) 213 && eqb (getD s (at + 1) 0) 23 ≡ false → head.Refused No.BadMark at ≡ readHead s at
     unfolding readHead must
     head-mark h = simp (le-leb (at + 5) (length s) l, h)
 
     module _ (h : eqb (getD s at 0) 213 && eqb (getD s (at + 1) 0) 23 ≡ true) where
-      marked : readHead s at ≡ must (leb (getD s (at + 2) 0) 3) (head.Refused 23 (at + 2))
-          (must (there s (at + 5) (bodyLen s at)) (head.Refused 22 (length s))
+      marked : readHead s at ≡ must (leb (getD s (at + 2) 0) 3) (head.Refused No.BadStage (at + 2))
+          (must (there s (at + 5) (bodyLen s at)) (head.Refused No.CutShort (length s))
           (head.Record (getD s (at + 2) 0) (at + 5) (bodyLen s at)))
       unfolding readHead must
       marked = simp (le-leb (at + 5) (length s) l, h)
 
-      pub head-stage : 3 < getD s (at + 2) 0 → head.Refused 23 (at + 2) ≡ readHead s at
+      pub head-stage : 3 < getD s (at + 2) 0 → head.Refused No.BadStage (at + 2) ≡ readHead s at
       unfolding must
       head-stage k = sym (marked ∙ simp (lt-leb (getD s (at + 2) 0) 3 k))
 
       module _ (k : getD s (at + 2) 0 ≤ 3) (n : ℕ) (e : n ≡ bodyLen s at) where
-        by-length : readHead s at ≡ must (there s (at + 5) n) (head.Refused 22 (length s)) (head.Record (getD s (at + 2) 0) (at + 5) n)
+        by-length : readHead s at ≡ must (there s (at + 5) n) (head.Refused No.CutShort (length s)) (head.Record (getD s (at + 2) 0) (at + 5) n)
         unfolding must
         by-length = marked ∙ simp (le-leb (getD s (at + 2) 0) 3 k, ← e)
 
-        pub head-short : length s < at + 5 + n → head.Refused 22 (length s) ≡ readHead s at
+        pub head-short : length s < at + 5 + n → head.Refused No.CutShort (length s) ≡ readHead s at
         unfolding must
         head-short m = sym (by-length ∙ simp (lt-leb (at + 5 + n) (length s) m))
 
@@ -70,12 +71,12 @@ module _ (s : List ℕ) (at : ℕ) where
 
 -- ---- a setting's body, as the code goes
 module _ (b : List ℕ) where
-  pub setting-cut : length b ≡ 0 → seenOf (readSetting b) ≡ seen.Refused 22 0
+  pub setting-cut : length b ≡ 0 → seenOf (readSetting b) ≡ seen.Refused No.CutShort 0
   unfolding readSetting must
   setting-cut e = simp e
 
   module _ (l : 1 ≤ length b) where
-    pub setting-tag : (getD b 0 0 ≡ 1 → ⊥) → seenOf (readSetting b) ≡ seen.Refused 25 0
+    pub setting-tag : (getD b 0 0 ≡ 1 → ⊥) → seenOf (readSetting b) ≡ seen.Refused No.BadNode 0
     unfolding readSetting must
     setting-tag e = simp (le-leb (0 + 1) (length b) l, ne-eqb (getD b 0 0) 1 e)
 
@@ -99,7 +100,7 @@ module _ (stages : List ℕ) (stage : ℕ) (b : List ℕ) where
     body-refused k p q = q ∙ sym (rw (was-refused (readExpression stages stage b) k p (sym q ∙ e)))
 
     module _ (n : ℕ) (q : r ≡ seen.Good n) where
-      pub body-leftover : n < length b → seen.Refused 29 n ≡ seenOf (readBody stages stage b)
+      pub body-leftover : n < length b → seen.Refused No.Leftover n ≡ seenOf (readBody stages stage b)
       unfolding readBody thenRead must
       body-leftover l = sym (rw (was-read (readExpression stages stage b) n (sym q ∙ e) .1) (simp (lt-leb (length b) n l)))
 

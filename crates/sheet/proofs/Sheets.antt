@@ -10,6 +10,7 @@ use lib.Seq.{take-suc-set}
 use lib.Dec.{ltb, leb}
 use borrow.Author.Tests.{lt-ltb, le-ltb, le-leb, lt-leb}
 use Rattle.value.specs.Pattern.{pick}
+use Rattle.value.specs.Refusals as No
 use Rattle.sheet.specs.declared.Checked.the-variants as checked
 use Rattle.sheet.specs.declared.Passed.{Passed}
 use Rattle.sheet.specs.declared.Passed.the-variants as passed
@@ -38,12 +39,12 @@ was-bad (found es m) k p e = absurd (let z : _≡_ {A = ℕ} 0 1 = cc in omega a
 was-bad (refused j q) k p e = let y : j ≡ k = cc in let z : q ≡ p = cc in cc
 
 -- ---- the records from a place on
-records-end : (room : ℕ) (s : List ℕ) (done : List Entry) (at : ℕ) → length s ≤ at → readRecords room s done at ≡ found done at
+pub records-end : (room : ℕ) (s : List ℕ) (done : List Entry) (at : ℕ) → length s ≤ at → readRecords room s done at ≡ found done at
 unfolding readRecords
 records-end zero s done at l = simp (le-ltb at (length s) l)
 records-end (suc room) s done at l = simp (le-ltb at (length s) l)
 
-records-full : (room : ℕ) (s : List ℕ) (done : List Entry) (at : ℕ) → at < length s → room ≡ 0 → readRecords room s done at ≡ refused 24 at
+pub records-full : (room : ℕ) (s : List ℕ) (done : List Entry) (at : ℕ) → at < length s → room ≡ 0 → readRecords room s done at ≡ refused No.TooManyEntries at
 unfolding readRecords
 records-full zero s done at l e = simp (lt-ltb at (length s) l)
 records-full (suc room) s done at l e = absurd (omega arith)
@@ -62,11 +63,11 @@ module _ (room : ℕ) (s : List ℕ) (done : List Entry) (at : ℕ) (stages : Li
   step : (x : Read Entry) → readRecord stages s at ≡ x → readRecords room s done at ≡ afterRecord (room - 1) s done x
   step x e = records-step room s done at l h ∙ ap (afterRecord (room - 1) s done) (ap (λ (k : List ℕ). readRecord k s at) (sym r) ∙ e)
 
-  records-bad : (k p : ℕ) → readRecord stages s at ≡ refused k p → readRecords room s done at ≡ refused k p
+  pub records-bad : (k p : ℕ) → readRecord stages s at ≡ refused k p → readRecords room s done at ≡ refused k p
   unfolding thenRead
   records-bad k p q = step (refused k p) q
 
-  records-next : (e : Entry) (n : ℕ) → readRecord stages s at ≡ found e n → readRecords room s done at ≡ readRecords (room - 1) s (done ++ e ∷ []) n
+  pub records-next : (e : Entry) (n : ℕ) → readRecord stages s at ≡ found e n → readRecords room s done at ≡ readRecords (room - 1) s (done ++ e ∷ []) n
   unfolding thenRead
   records-next e n q = step (found e n) q
 
@@ -97,7 +98,7 @@ pub record Going (s stages : List ℕ) (n at : ℕ) : Type 0 where
   pub short : length s ≤ 16384
   pub same : readSheet s ≡ readRecords (128 - n) s done at
 
-pub sheet-long : (s : List ℕ) → 16384 < length s → checked.Refused 20 0 ≡ checkedOf (readSheet s)
+pub sheet-long : (s : List ℕ) → 16384 < length s → checked.Refused No.SheetTooLong 0 ≡ checkedOf (readSheet s)
 unfolding readSheet must
 sheet-long s l = simp (lt-leb (length s) 16384 l)
 
@@ -109,7 +110,7 @@ module _ (s stages : List ℕ) (n at : ℕ) (i : Going s stages n at) where
   pub going-end : length s ≤ at → checked.Good n ≡ checkedOf (readSheet s)
   going-end l = sym (ap checkedOf (i .same ∙ records-end (128 - n) s (i .done) at l) ∙ ap checked.Good (i .counted))
 
-  pub going-full : at < length s → 128 ≤ n → checked.Refused 24 at ≡ checkedOf (readSheet s)
+  pub going-full : at < length s → 128 ≤ n → checked.Refused No.TooManyEntries at ≡ checkedOf (readSheet s)
   going-full l h = sym (ap checkedOf (i .same ∙ records-full (128 - n) s (i .done) at l (omega arith)))
 
   module _ (l : at < length s) (h : n < 128) (r : Passed) (e : r ≡ passedOf (readRecord (take n stages) s at)) where
@@ -149,7 +150,7 @@ pub prefix : (room : ℕ) (s : List ℕ) (d : List Entry) (at : ℕ) (es : List 
 unfolding readRecords thenRead
 prefix zero s d at es z = go (ltb at (length s))
   where
-    go : (b : Bool) → pick b (refused 24 at) (found d at) ≡ found es z → (r : List Entry) × (es ≡ d ++ r)
+    go : (b : Bool) → pick b (refused No.TooManyEntries at) (found d at) ≡ found es z → (r : List Entry) × (es ≡ d ++ r)
     go true q = absurd (never 24 at es z q)
     go false q = ([], let h : d ≡ es = cc in sym h ∙ sym (append-nil d))
 prefix (suc room) s d at es z = go (prefix room s) (ltb at (length s)) (readRecord (map entryStage d) s at)
@@ -166,7 +167,7 @@ pub one-more : (room : ℕ) (s : List ℕ) (d : List Entry) (at : ℕ) (e : Entr
 unfolding readRecords thenRead
 one-more zero s d at e r z = go (ltb at (length s))
   where
-    go : (b : Bool) → pick b (refused 24 at) (found d at) ≡ found (d ++ e ∷ r) z
+    go : (b : Bool) → pick b (refused No.TooManyEntries at) (found d at) ≡ found (d ++ e ∷ r) z
         → (n : ℕ) × (readRecord (map entryStage d) s at ≡ found e n) × (readRecords (zero - 1) s (d ++ e ∷ []) n ≡ found ((d ++ e ∷ []) ++ r) z)
     go true q = absurd (never 24 at (d ++ e ∷ r) z q)
     go false q = absurd (unlike d e r cc)

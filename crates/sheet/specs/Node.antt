@@ -6,6 +6,7 @@ use lib.ListN.{length, getD, replicate}
 use lib.Dec.{ltb, leb, eqb}
 use Rattle.types.specs.Types.{concreteOf}
 use Rattle.value.specs.Pattern.{pick, properOf, keptOf}
+use Rattle.value.specs.Refusals as No
 use Rattle.operand.specs.declared.Instance.{Instance}
 use Rattle.operand.specs.Operand.{shapeOk}
 use Rattle.sheet.specs.declared.Literal.{Literal}
@@ -51,22 +52,22 @@ literalOk setting h = shapeOk (h .ty) (h .cols) (h .rows) && (not setting || (co
 abbrev pub readComponents : LiteralHead → ℕ → List ℕ → ℕ → Read Instance
 readComponents h n b at =
     must (there b (at + 4) (8 * n)) (cut b)
-    (must (allProper (h .ty) n b (at + 4)) (refused 26 at)
+    (must (allProper (h .ty) n b (at + 4)) (refused No.BadValue at)
     (found (valueAt (h .ty) (h .cols) (h .rows) n b (at + 4)) (at + 4 + 8 * n)))
 
 -- 01, type, columns, rows, components: type and shape are judged before the components are looked for
 unfoldable pub readLiteral : Bool → List ℕ → ℕ → Read Instance
 readLiteral setting b at =
     must (there b at 4) (cut b)
-    (must (literalOk setting (literalHead b at)) (refused 26 at)
+    (must (literalOk setting (literalHead b at)) (refused No.BadValue at)
     (readComponents (literalHead b at) (literalCount b at) b at))
 
 -- 02, number of an earlier entry, whose stage is not above this one's
 unfoldable pub readReference : List ℕ → ℕ → List ℕ → ℕ → Read Expr
 readReference stages own b at =
     must (there b at 2) (cut b)
-    (must (ltb (getD b (at + 1) 0) (length stages)) (refused 27 at)
-    (must (leb (getD stages (getD b (at + 1) 0) 0) own) (refused 23 at)
+    (must (ltb (getD b (at + 1) 0) (length stages)) (refused No.BadRef at)
+    (must (leb (getD stages (getD b (at + 1) 0) 0) own) (refused No.BadStage at)
     (found (reference (getD b (at + 1) 0)) (at + 2))))
 
 -- operators 1 to 3 stand before one operand, 1 to 18 before two
@@ -82,7 +83,7 @@ operands true place op below at = thenRead (below at) (λ l m. readAs (binary pl
 unfoldable pub readOperator : Bool → (ℕ → Read Expr) → List ℕ → ℕ → Read Expr
 readOperator two below b at =
     must (there b at 2) (cut b)
-    (must (operatorKnown two (getD b (at + 1) 0)) (refused 25 at)
+    (must (operatorKnown two (getD b (at + 1) 0)) (refused No.BadNode at)
     (operands two at (getD b (at + 1) 0) below (at + 2)))
 
 -- what a node's tag byte says that it is
@@ -99,11 +100,11 @@ unfoldable pub onTag : Tag → (ℕ → Read Expr) → List ℕ → ℕ → List
 onTag isLiteral below stages own b at = readAs literal (readLiteral false b at)
 onTag isReference below stages own b at = readReference stages own b at
 onTag (isOperator two) below stages own b at = readOperator two below b at
-onTag unknown below stages own b at = refused 25 at
+onTag unknown below stages own b at = refused No.BadNode at
 
 -- one node, where so many levels are left: depth, tag byte there, tag known, and what its tag asks
 unfoldable pub readNode : ℕ → List ℕ → ℕ → List ℕ → ℕ → Read Expr
-readNode zero stages own b at = refused 28 at
+readNode zero stages own b at = refused No.TooDeep at
 readNode (suc levels) stages own b at =
     must (there b at 1) (cut b)
     (onTag (tagOf (getD b at 0)) (readNode levels stages own b) stages own b at)

@@ -6,6 +6,7 @@ use lib.ListN.{length}
 use lib.Dec.{leb}
 use Rattle.sheet.specs.declared.Seen.{Seen}
 use Rattle.sheet.specs.declared.Seen.the-variants as seen
+use Rattle.value.specs.Refusals as No
 
 pub data Read (A : Type 0) : Type 0 where
   found : A → ℕ → Read A
@@ -37,7 +38,7 @@ there b at n = leb (at + n) (length b)
 
 -- CutShort: its place is the first missing byte, the one past the end
 abbrev pub cut : {A : Type 0} → List ℕ → Read A
-cut b = refused 22 (length b)
+cut b = refused No.CutShort (length b)
 
 -- an answer without the thing that was read
 abbrev pub seenOf : {A : Type 0} → Read A → Seen

@@ -5,6 +5,7 @@ use mathlib.Core.Bool.{true, _&&_}
 use lib.ListN.{length, getD, take, drop}
 use lib.Dec.{leb, eqb}
 use Rattle.value.specs.Pattern.{pick}
+use Rattle.value.specs.Refusals as No
 use Rattle.sheet.specs.declared.Head.{Head}
 use Rattle.sheet.specs.declared.Head.the-variants as head
 use Rattle.sheet.specs.declared.Passed.{Passed}
@@ -20,10 +21,10 @@ bodyLen s at = getD s (at + 3) 0 + 256 * getD s (at + 4) 0
 -- mark D5 17, stage byte 0 to 3, body length: where the body starts and its length
 unfoldable pub readHead : List ℕ → ℕ → Head
 readHead s at =
-    must (there s at 5) (head.Refused 22 (length s))
-    (must (eqb (getD s at 0) 213 && eqb (getD s (at + 1) 0) 23) (head.Refused 21 at)
-    (must (leb (getD s (at + 2) 0) 3) (head.Refused 23 (at + 2))
-    (must (there s (at + 5) (bodyLen s at)) (head.Refused 22 (length s))
+    must (there s at 5) (head.Refused No.CutShort (length s))
+    (must (eqb (getD s at 0) 213 && eqb (getD s (at + 1) 0) 23) (head.Refused No.BadMark at)
+    (must (leb (getD s (at + 2) 0) 3) (head.Refused No.BadStage (at + 2))
+    (must (there s (at + 5) (bodyLen s at)) (head.Refused No.CutShort (length s))
     (head.Record (getD s (at + 2) 0) (at + 5) (bodyLen s at)))))
 
 -- the part of a sheet with this start and length; an empty one where it does not lie in the sheet
@@ -32,7 +33,7 @@ bodyAt s start len = pick (there s start len) (take len (drop start s)) []
 
 -- a setting's body is one 01 node
 unfoldable pub readSetting : List ℕ → Read Entry
-readSetting b = must (there b 0 1) (cut b) (must (eqb (getD b 0 0) 1) (refused 25 0) (readAs setting (readLiteral true b 0)))
+readSetting b = must (there b 0 1) (cut b) (must (eqb (getD b 0 0) 1) (refused No.BadNode 0) (readAs setting (readLiteral true b 0)))
 
 -- the one expression of a body, at most 32 deep
 unfoldable pub readExpression : List ℕ → ℕ → List ℕ → Read Entry
@@ -40,7 +41,7 @@ readExpression stages stage b = pick (eqb stage 3) (readSetting b) (readAs (expr
 
 -- a body: one expression with nothing left over
 unfoldable pub readBody : List ℕ → ℕ → List ℕ → Read Entry
-readBody stages stage b = thenRead (readExpression stages stage b) (λ e n. must (leb (length b) n) (refused 29 n) (found e n))
+readBody stages stage b = thenRead (readExpression stages stage b) (λ e n. must (leb (length b) n) (refused No.Leftover n) (found e n))
 
 -- one record, where the entries before it count as these stages
 abbrev pub onHead : Head → List ℕ → List ℕ → Read Entry

@@ -12,6 +12,7 @@ use operand::Instance;
 pub use record::body;
 pub use record::read_head;
 use record::read_record;
+use value::refusals;
 ghost use mathlib.Core.Path.{_≡_};
 ghost use Rattle.sheet.specs.Sheet.{readSheet, checkedOf};
 
@@ -50,14 +51,14 @@ pub fn check(s: &[u8]) -> Checked
     ensures { λ r. ⌜ r ≡ checkedOf (readSheet (now (s .entry))) ⌝ }
 {
     if 16384 < s.len() {
-        return Checked::Refused(20, 0);
+        return Checked::Refused(refusals::SHEET_TOO_LONG, 0);
     }
     let mut stages = [0u8; 128];
     let mut n: usize = 0;
     let mut at: usize = 0;
     while at < s.len() {
         if 128 <= n {
-            return Checked::Refused(24, at);
+            return Checked::Refused(refusals::TOO_MANY_ENTRIES, at);
         }
         match read_record(s, &stages[..n], at) {
             Passed::Refused(k, p) => {

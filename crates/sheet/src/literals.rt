@@ -4,6 +4,7 @@ use crate::Seen;
 use crate::bytes::remaining;
 use crate::bytes::word_at;
 use operand::Instance;
+use value::refusals;
 ghost use mathlib.Core.Path.{_≡_};
 ghost use mathlib.Core.Bool.{false};
 ghost use mathlib.Core.List.{_++_};
@@ -69,18 +70,18 @@ pub(crate) fn read_literal(b: &[u8], at: usize, setting: bool) -> Seen
     ensures { λ r. ⌜ r ≡ seenOf (readLiteral setting (now (b .entry)) at) ⌝ }
 {
     if remaining(b, at) < 4 {
-        return Seen::Refused(22, b.len());
+        return Seen::Refused(refusals::CUT_SHORT, b.len());
     }
     let h = literal_head(b, at);
     if !literal_ok(setting, h) {
-        return Seen::Refused(26, at);
+        return Seen::Refused(refusals::BAD_VALUE, at);
     }
     let n = area(h.cols, h.rows);
     if remaining(b, at + 4) < 8 * n {
-        return Seen::Refused(22, b.len());
+        return Seen::Refused(refusals::CUT_SHORT, b.len());
     }
     if !all_proper(b, at + 4, n, h.ty) {
-        return Seen::Refused(26, at);
+        return Seen::Refused(refusals::BAD_VALUE, at);
     }
     Seen::Good(at + 4 + 8 * n)
 }

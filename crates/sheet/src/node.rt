@@ -2,6 +2,7 @@
 use crate::Seen;
 use crate::bytes::remaining;
 use crate::literals::read_literal;
+use value::refusals;
 ghost use mathlib.Core.Path.{_≡_};
 ghost use Rattle.sheet.specs.Read.{seenOf};
 ghost use Rattle.sheet.specs.Node.{operatorKnown, readReference, readOperator, readNode};
@@ -18,14 +19,14 @@ fn read_reference(b: &[u8], stages: &[u8], own: u8, at: usize) -> Seen
     ensures { λ r. ⌜ r ≡ seenOf (readReference (now (stages .entry)) own (now (b .entry)) at) ⌝ }
 {
     if remaining(b, at) < 2 {
-        return Seen::Refused(22, b.len());
+        return Seen::Refused(refusals::CUT_SHORT, b.len());
     }
     let k = b[at + 1] as usize;
     if stages.len() <= k {
-        return Seen::Refused(27, at);
+        return Seen::Refused(refusals::BAD_REF, at);
     }
     if own < stages[k] {
-        return Seen::Refused(23, at);
+        return Seen::Refused(refusals::BAD_STAGE, at);
     }
     Seen::Good(at + 2)
 }
@@ -35,10 +36,10 @@ pub(crate) fn read_node(b: &[u8], stages: &[u8], own: u8, at: usize, levels: usi
     ensures { λ r. ⌜ r ≡ seenOf (readNode levels (now (stages .entry)) own (now (b .entry)) at) ⌝ }
 {
     if levels == 0 {
-        return Seen::Refused(28, at);
+        return Seen::Refused(refusals::TOO_DEEP, at);
     }
     if remaining(b, at) < 1 {
-        return Seen::Refused(22, b.len());
+        return Seen::Refused(refusals::CUT_SHORT, b.len());
     }
     let tag = b[at];
     match tag {
@@ -46,7 +47,7 @@ pub(crate) fn read_node(b: &[u8], stages: &[u8], own: u8, at: usize, levels: usi
         2 => read_reference(b, stages, own, at),
         3 => read_operands(b, stages, own, at, levels - 1, false),
         4 => read_operands(b, stages, own, at, levels - 1, true),
-        _ => Seen::Refused(25, at),
+        _ => Seen::Refused(refusals::BAD_NODE, at),
     }
 }
 
@@ -55,10 +56,10 @@ fn read_operands(b: &[u8], stages: &[u8], own: u8, at: usize, levels: usize, two
     ensures { λ r. ⌜ r ≡ seenOf (readOperator two (readNode levels (now (stages .entry)) own (now (b .entry))) (now (b .entry)) at) ⌝ }
 {
     if remaining(b, at) < 2 {
-        return Seen::Refused(22, b.len());
+        return Seen::Refused(refusals::CUT_SHORT, b.len());
     }
     if !known_operator(two, b[at + 1]) {
-        return Seen::Refused(25, at);
+        return Seen::Refused(refusals::BAD_NODE, at);
     }
     let first = read_node(b, stages, own, at + 2, levels);
     if two {

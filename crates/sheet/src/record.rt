@@ -6,6 +6,7 @@ use crate::bytes::byte;
 use crate::bytes::remaining;
 use crate::literals::read_literal;
 use crate::node::read_node;
+use value::refusals;
 ghost use mathlib.Core.Path.{_≡_};
 ghost use Prim.Native.Nat.{_+_, _<_, _≤_};
 ghost use lib.ListN.{length};
@@ -27,18 +28,18 @@ pub fn read_head(s: &[u8], at: usize) -> Head
     ensures { λ r. ⌜ r ≡ readHead (now (s .entry)) at ⌝ }
 {
     if remaining(s, at) < 5 {
-        return Head::Refused(22, s.len());
+        return Head::Refused(refusals::CUT_SHORT, s.len());
     }
     if !((s[at] == 0xD5) & (s[at + 1] == 0x17)) {
-        return Head::Refused(21, at);
+        return Head::Refused(refusals::BAD_MARK, at);
     }
     let stage = s[at + 2];
     if 3 < stage {
-        return Head::Refused(23, at + 2);
+        return Head::Refused(refusals::BAD_STAGE, at + 2);
     }
     let len = body_len(s, at);
     if remaining(s, at + 5) < len {
-        return Head::Refused(22, s.len());
+        return Head::Refused(refusals::CUT_SHORT, s.len());
     }
     Head::Record {
         stage: stage,
@@ -65,10 +66,10 @@ fn read_setting(b: &[u8]) -> Seen
     ensures { λ r. ⌜ r ≡ seenOf (readSetting (now (b .entry))) ⌝ }
 {
     if b.len() == 0 {
-        return Seen::Refused(22, 0);
+        return Seen::Refused(refusals::CUT_SHORT, 0);
     }
     if b[0] != 1 {
-        return Seen::Refused(25, 0);
+        return Seen::Refused(refusals::BAD_NODE, 0);
     }
     read_literal(b, 0, true)
 }
@@ -92,7 +93,7 @@ fn read_body(b: &[u8], stages: &[u8], stage: u8) -> Seen
         return seen;
     };
     if n < b.len() {
-        return Seen::Refused(29, n);
+        return Seen::Refused(refusals::LEFTOVER, n);
     }
     seen
 }

@@ -8,6 +8,7 @@ use lib.Dec.{eqb, leb}
 use lib.ListN.{getD}
 use borrow.Author.Tests.{lt-ltb, le-ltb}
 use Rattle.value.specs.Pattern.{properOf, keptOf}
+use Rattle.value.specs.Refusals as No
 use Rattle.operand.specs.declared.Instance.{Instance}
 use Rattle.operand.specs.declared.Outcome.{Outcome}
 use Rattle.operand.specs.Operand.{shapeOk}
@@ -54,6 +55,6 @@ module _ (l : List ℕ) (k : ℕ) (o : Outcome) (r : Bool) (e : o ≡ saidBy (sl
   unfolding referenceTo
   reference-value h = rw (given true h) e
 
-  pub reference-refused : (x : Outcome) → (eqb (o .status) 0 && r) ≡ false → x ≡ refusedWith 11 k → x ≡ referenceTo l k
+  pub reference-refused : (x : Outcome) → (eqb (o .status) 0 && r) ≡ false → x ≡ refusedWith No.FromEntry k → x ≡ referenceTo l k
   unfolding referenceTo
   reference-refused x h p = rw (given false h) p

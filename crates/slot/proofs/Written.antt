@@ -15,6 +15,7 @@ use lib.Seq.{take-at, drop-at, getD-drop}
 use borrow.Author.Tests.{ltb-true, ltb-false, lt-ltb, le-leb, lt-leb, eqb-true, eqb-false, eq-eqb}
 use Rattle.types.specs.Types.{knownOf, widthOf}
 use Rattle.value.specs.Pattern.{pick, properOf, keptOf}
+use Rattle.value.specs.Refusals as No
 use Rattle.operand.proofs.Answers.{Fine, Answers}
 use Rattle.operand.specs.declared.Instance.{Instance}
 use Rattle.operand.specs.declared.Outcome.{Outcome}
@@ -205,10 +206,10 @@ pub reference-formed : (l : List ℕ) (k : ℕ) → k < 128 → formed (referenc
 unfolding referenceTo wellFormed
 reference-formed l k h = go (eqb (saidBy (slot l k) .status) 0) (formed (saidBy (slot l k))) refl
   where
-    from-entry : formed (refusedWith 11 k) ≡ true
+    from-entry : formed (refusedWith No.FromEntry k) ≡ true
     from-entry = refusal-formed 11 k (omega arith) (omega arith) (rw (lt-ltb k 128 h) (or-true (eqb k 0 || false || false)))
 
-    go : (a b : Bool) → formed (saidBy (slot l k)) ≡ b → formed (pick (a && b) (saidBy (slot l k)) (refusedWith 11 k)) ≡ true
+    go : (a b : Bool) → formed (saidBy (slot l k)) ≡ b → formed (pick (a && b) (saidBy (slot l k)) (refusedWith No.FromEntry k)) ≡ true
     go true true e = e
     go true false e = from-entry
     go false b e = from-entry

@@ -5,6 +5,7 @@ use Prim.Native.Nat.{ℕ, zero, suc, _+_, _*_, _/_}
 use lib.Dec.{eqb, leb, ltb}
 use lib.ListN.{length, drop, getD}
 use Rattle.value.specs.Pattern.{pick, properOf, keptOf}
+use Rattle.value.specs.Refusals as No
 use Rattle.operand.specs.declared.Instance.{Instance}
 use Rattle.operand.specs.declared.Outcome.{Outcome}
 use Rattle.operand.specs.Operand.{shapeOk}
@@ -64,13 +65,13 @@ blank v = eqb (v .ty) 0 && eqb (v .cols) 0 && eqb (v .rows) 0 && componentsForme
 
 -- detail 0, but any for 9 and 10 and below 128 for 11
 abbrev pub detailFormed : ℕ → ℕ → Bool
-detailFormed n d = eqb d 0 || eqb n 9 || eqb n 10 || (eqb n 11 && ltb d 128)
+detailFormed n d = eqb d 0 || eqb n No.ShlOverflow || eqb n No.ShrOverflow || (eqb n No.FromEntry && ltb d 128)
 
 -- status 0, detail 0 and such a value; or status 1 to 11 with those zeros and such a detail
 unfoldable pub formed : Outcome → Bool
 formed o =
     (eqb (o .status) 0 && eqb (o .detail) 0 && valueFormed (o .value))
-    || (leb 1 (o .status) && leb (o .status) 11 && detailFormed (o .status) (o .detail) && blank (o .value))
+    || (leb No.Unary (o .status) && leb (o .status) No.FromEntry && detailFormed (o .status) (o .detail) && blank (o .value))
 
 -- a slot is well formed
 unfoldable pub wellFormed : List ℕ → Bool
@@ -78,4 +79,4 @@ wellFormed b = formed (saidBy b)
 
 -- a reference to a slot whose status is not 0, or that is not well formed, refuses with FromEntry
 unfoldable pub referenceTo : List ℕ → ℕ → Outcome
-referenceTo l k = pick (eqb (saidBy (slot l k) .status) 0 && wellFormed (slot l k)) (saidBy (slot l k)) (refusedWith 11 k)
+referenceTo l k = pick (eqb (saidBy (slot l k) .status) 0 && wellFormed (slot l k)) (saidBy (slot l k)) (refusedWith No.FromEntry k)

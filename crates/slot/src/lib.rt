@@ -3,6 +3,7 @@ mod formed;
 mod words;
 
 use operand::Outcome;
+use value::refusals;
 ghost use mathlib.Core.Path.{_≡_};
 ghost use lib.ListN.{length};
 ghost use Rattle.slot.specs.Slot.{bytesOf, saidBy, slot, put, wellFormed, referenceTo};
@@ -89,5 +90,5 @@ pub fn reference(results: &[u8], entry: u8) -> Outcome
     if (o.status == 0) & formed::formed(o) {
         return o;
     }
-    operand::refused(11, entry as u32)
+    operand::refused(refusals::FROM_ENTRY, entry as u32)
 }

@@ -8,24 +8,20 @@ use lib.ListN.{length, replicate}
 use Rattle.value.specs.Pattern.{keptOf}
 use Rattle.slot.specs.Bytes.{whole, part}
 use Rattle.slot.specs.Slot.{numbers, saidBy, slot, each, componentFormed, componentsFormed, valueFormed, blank, formed, wellFormed}
-use Rattle.text.specs.Text.{decimals, dec, hex, spaced, shown, line, lines, entries, listing, refusalLine, mover, movers, movedLine}
+use Rattle.text.specs.Text.{ascii, decimals, dec, hex, spaced, shown, line, lines, entries, listing, refusalLine, mover, movers, movedLine}
 
 -- the results of one entry of status 0: its type, columns, rows and the low byte of its first component
 abbrev results : ℕ → ℕ → ℕ → ℕ → List ℕ
 results ty cols rows low = 0 ∷ ty ∷ cols ∷ rows ∷ replicate 4 0 ++ (low ∷ replicate 127 0)
 
--- "sheet 1", and "0 0", a type's digit, " 1 1 0"
-abbrev scalarLine : ℕ → List ℕ
-scalarLine ty = 115 ∷ 104 ∷ 101 ∷ 101 ∷ 116 ∷ 32 ∷ 49 ∷ 10 ∷ 48 ∷ 32 ∷ 48 ∷ 32 ∷ ty ∷ 32 ∷ 49 ∷ 32 ∷ 49 ∷ 32 ∷ 48 ∷ []
-
 -- list: a U32 5 has its fifteen zeros
-pub zeros-listed : listing (results 4 1 1 5) ≡ scalarLine 52 ++ (32 ∷ replicate 15 48) ++ (53 ∷ 10 ∷ [])
+pub zeros-listed : listing (results 4 1 1 5) ≡ ascii "sheet 1\n0 0 4 1 1 0 0000000000000005\n"
 unfolding keptOf decimals dec hex spaced shown line lines entries listing whole part numbers saidBy slot each componentFormed componentsFormed valueFormed blank
     formed wellFormed
 zeros-listed = refl
 
 -- list: a Bool of 2 is not well formed, and no component of it is shown
-pub unformed-hidden : listing (results 0 1 1 2) ≡ scalarLine 48 ++ (10 ∷ [])
+pub unformed-hidden : listing (results 0 1 1 2) ≡ ascii "sheet 1\n0 0 0 1 1 0\n"
 unfolding keptOf decimals dec hex spaced shown line lines entries listing whole part numbers saidBy slot each componentFormed componentsFormed valueFormed blank
     formed wellFormed
 unformed-hidden = refl
@@ -37,11 +33,11 @@ unfolding keptOf decimals dec hex spaced shown line lines entries listing whole 
 sixteen-listed = refl
 
 -- refuse: the number is the one given
-pub number-refused : refusalLine 9 ≡ 114 ∷ 101 ∷ 102 ∷ 117 ∷ 115 ∷ 101 ∷ 100 ∷ 32 ∷ 57 ∷ 10 ∷ []
+pub number-refused : refusalLine 9 ≡ ascii "refused 9\n"
 unfolding decimals dec refusalLine
 number-refused = refl
 
--- moved: "moved 2 1 2", where entries 0, 1 and 2 are marked and 0 is the setting
-pub movers-named : movedLine 2 (true ∷ true ∷ true ∷ replicate 125 false) 0 ≡ 109 ∷ 111 ∷ 118 ∷ 101 ∷ 100 ∷ 32 ∷ 50 ∷ 32 ∷ 49 ∷ 32 ∷ 50 ∷ 10 ∷ []
+-- moved: two entries, where entries 0, 1 and 2 are marked and 0 is the setting
+pub movers-named : movedLine 2 (true ∷ true ∷ true ∷ replicate 125 false) 0 ≡ ascii "moved 2 1 2\n"
 unfolding decimals dec spaced mover movers movedLine
 movers-named = refl

@@ -2,6 +2,8 @@
 use mathlib.Core.Path.{_≡_}
 use mathlib.Core.Bool.{Bool, true, false, cond, not, _&&_}
 use mathlib.Core.List.{List, [], _∷_, _++_}
+use Prim.Native.Char.{code}
+use Prim.Native.String.{String, [] as none, _∷_ as _before_}
 use Prim.Native.Nat.{ℕ, zero, suc, _+_, _*_, _/_, _%_, min}
 use lib.Dec.{ltb, eqb}
 use lib.ListN.{length, take, getD}
@@ -9,6 +11,11 @@ use Rattle.io.specs.Digits.{digits}
 use Rattle.operand.specs.declared.Outcome.{Outcome}
 use Rattle.slot.specs.Bytes.{patch}
 use Rattle.slot.specs.Slot.{slot, saidBy, wellFormed}
+
+-- a text as bytes, one for each character
+abbrev pub ascii : String → List ℕ
+ascii none = []
+ascii (c before s) = code c ∷ ascii s
 
 -- the decimal digits of n, of which there are at most f + 1
 unfoldable pub decimals : ℕ → ℕ → List ℕ
@@ -60,11 +67,11 @@ entries b = min (length b / 136) 128
 
 -- "sheet", the number of entries and their lines
 unfoldable pub listing : List ℕ → List ℕ
-listing b = (115 ∷ 104 ∷ 101 ∷ 101 ∷ 116 ∷ 32 ∷ []) ++ dec (entries b) ++ (10 ∷ []) ++ lines b (entries b)
+listing b = ascii "sheet " ++ dec (entries b) ++ (10 ∷ []) ++ lines b (entries b)
 
 -- "refused" and the number
 unfoldable pub refusalLine : ℕ → List ℕ
-refusalLine n = (114 ∷ 101 ∷ 102 ∷ 117 ∷ 115 ∷ 101 ∷ 100 ∷ 32 ∷ []) ++ dec n ++ (10 ∷ [])
+refusalLine n = ascii "refused " ++ dec n ++ (10 ∷ [])
 
 -- entry k, where it is marked and not the setting's own
 unfoldable pub mover : List Bool → ℕ → ℕ → List ℕ
@@ -77,7 +84,7 @@ movers marks own (suc n) = movers marks own n ++ mover marks own n
 
 -- "moved", how many entries depend on the setting, and which they are
 unfoldable pub movedLine : ℕ → List Bool → ℕ → List ℕ
-movedLine n marks own = (109 ∷ 111 ∷ 118 ∷ 101 ∷ 100 ∷ 32 ∷ []) ++ dec n ++ fields (movers marks own 128) ++ (10 ∷ [])
+movedLine n marks own = ascii "moved " ++ dec n ++ fields (movers marks own 128) ++ (10 ∷ [])
 
 -- m is l with the text t at place a, and b is the place after t
 pub record Put (l m : List ℕ) (a b : ℕ) (t : List ℕ) : Type 0 where

@@ -3,6 +3,7 @@ mod lines;
 mod movers;
 mod put;
 
+ghost use Prim.Native.Nat.{_≤_};
 ghost use Rattle.io.specs.Counts.{Counts};
 ghost use Rattle.text.specs.Text.{Put, listing, refusalLine, movedLine};
 
@@ -10,6 +11,7 @@ ghost use Rattle.text.specs.Text.{Put, listing, refusalLine, movedLine};
 pub fn list(out: &mut [u8; 65536], results: &[u8]) -> usize
     ensures { λ r. ⌜ Put (now (out .entry)) (now (out .exit)) 0 r (listing (now (results .entry))) ⌝ }
     ensures { λ r. ⌜ Counts r (now (out .exit)) ⌝ }
+    ensures { λ r. ⌜ r ≤ 65536 ⌝ }
 {
     let n = lines::entries(results);
     let a = put::labelled(out, 0, b"sheet ", n as u64);
@@ -21,6 +23,7 @@ pub fn list(out: &mut [u8; 65536], results: &[u8]) -> usize
 pub fn refuse(out: &mut [u8; 65536], number: u8) -> usize
     ensures { λ r. ⌜ Put (now (out .entry)) (now (out .exit)) 0 r (refusalLine number) ⌝ }
     ensures { λ r. ⌜ Counts r (now (out .exit)) ⌝ }
+    ensures { λ r. ⌜ r ≤ 65536 ⌝ }
 {
     let a = put::labelled(out, 0, b"refused ", number as u64);
     put::text(out, a, b"\n")
@@ -30,6 +33,7 @@ pub fn refuse(out: &mut [u8; 65536], number: u8) -> usize
 pub fn moved(out: &mut [u8; 65536], n: u64, marks: &[bool; 128], own: u64) -> usize
     ensures { λ r. ⌜ Put (now (out .entry)) (now (out .exit)) 0 r (movedLine n (now (marks .entry)) own) ⌝ }
     ensures { λ r. ⌜ Counts r (now (out .exit)) ⌝ }
+    ensures { λ r. ⌜ r ≤ 65536 ⌝ }
 {
     let a = put::labelled(out, 0, b"moved ", n);
     let b = movers::put(out, a, marks, own);

@@ -38,9 +38,9 @@ pub common-right : (commonType 1 5 ≡ Code 5) × (commonType 3 4 ≡ Nothing) �
 unfolding commonType
 common-right = (refl, refl, refl)
 
--- Bools ordered; floats with bits; 0 for an operator; a right of no type
-pub no-right : (rightOf 10 0 ≡ false) × (rightOf 14 5 ≡ false) × (rightOf 0 0 ≡ false) × (rightOf 8 7 ≡ false)
-no-right = (refl, refl, refl, refl)
+-- Bools ordered; floats with bits; 0 and 200 for operators; a right of no type
+pub no-right : (rightOf 10 0 ≡ false) × (rightOf 14 5 ≡ false) × (rightOf 0 0 ≡ false) × (rightOf 200 1 ≡ false) × (rightOf 8 7 ≡ false)
+no-right = (refl, refl, refl, refl, refl)
 
 -- `!` on integers; a U32 negated; a right of no type
 pub no-unary-right : (unaryRightOf 1 3 ≡ false) × (unaryRightOf 2 4 ≡ false) × (unaryRightOf 2 7 ≡ false)

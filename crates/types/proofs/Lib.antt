@@ -3,5 +3,6 @@ pub mod Choice
 pub mod Rows
 pub mod Goes
 pub mod Table
+pub mod Bounds
 pub mod Single
 pub mod Impostors

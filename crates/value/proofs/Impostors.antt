@@ -9,7 +9,7 @@ use Rattle.value.specs.declared.Found.the-variants.{Nothing}
 use Rattle.value.specs.declared.Pair.the-variants.{None}
 use Rattle.value.specs.Answer.{strict, stageOf}
 use Rattle.value.specs.Pattern.{properOf, keptOf}
-use Rattle.value.specs.Scalar.{typeOf, finiteOf, bitsOf, scalarOf}
+use Rattle.value.specs.Scalar.{typeOf, finiteOf, bitsOf, keptScalar, scalarOf}
 use Rattle.value.specs.Pair.{bothOf}
 
 -- every stage strict
@@ -29,6 +29,11 @@ not-patterns = (refl, refl, refl)
 pub one-nan-kept : (keptOf 5 0xFF800001 ≡ 0x7FC00000) × (keptOf 5 0xFF800000 ≡ 0xFF800000)
 unfolding keptOf
 one-nan-kept = (refl, refl)
+
+-- an F16's NaN as it came; any bits of an F16 taken for a NaN's
+pub half-kept : (keptScalar (F16 0xFC01) ≡ F16 0x7E00) × (keptScalar (F16 0xFC00) ≡ F16 0xFC00)
+unfolding keptOf
+half-kept = (refl, refl)
 
 -- Override for every code past Const's
 pub two-is-exec : stageOf 2 ≡ Exec

@@ -19,6 +19,8 @@ use Rattle.value.proofs.stage_of.Kinds as stage-of-kinds
 use Rattle.value.proofs.stage_of.Reads as stage-of-reads
 use Rattle.value.proofs.type_of.Kinds as type-of-kinds
 use Rattle.value.proofs.type_of.Reads as type-of-reads
+use Rattle.value.proofs.pattern.kept_scalar.Kinds as kept-scalar-kinds
+use Rattle.value.proofs.pattern.kept_scalar.Reads as kept-scalar-reads
 use Rattle.value.proofs.pattern.bits_of.Kinds as bits-of-kinds
 use Rattle.value.proofs.pattern.bits_of.Reads as bits-of-reads
 use Rattle.value.proofs.pattern.scalar_of.Kinds as scalar-of-kinds
@@ -75,6 +77,9 @@ stage-of-one κs a x y s t p q = p ∙ sym q
 
 pub type-of-one : OneResult 0 type-of-kinds.ps type-of-kinds.r type-of-reads.Post
 type-of-one κs a x y s t p q = p ∙ sym q
+
+pub kept-scalar-one : OneResult 0 kept-scalar-kinds.ps kept-scalar-kinds.r kept-scalar-reads.Post
+kept-scalar-one κs a x y s t p q = p ∙ sym q
 
 pub bits-of-one : OneResult 0 bits-of-kinds.ps bits-of-kinds.r bits-of-reads.Post
 bits-of-one κs a x y s t p q = p ∙ sym q

@@ -23,7 +23,7 @@ use Rattle.value.specs.declared.Found.the-variants.{Value, Nothing}
 use Rattle.value.specs.declared.Pair.{Pair}
 use Rattle.value.specs.declared.Pair.the-variants as P
 use Rattle.value.specs.Pattern.{pick, properOf, nanPattern, oneNan, keptOf}
-use Rattle.value.specs.Scalar.{typeOf, bitsOf, scalarOf}
+use Rattle.value.specs.Scalar.{typeOf, bitsOf, keptScalar, scalarOf}
 use Rattle.value.specs.Pair.{cases, pairOf, bothOf}
 use Rattle.types.proofs.Choice.{passed}
 use Rattle.types.proofs.Rows.{by-code}
@@ -140,6 +140,29 @@ bits-kept (I32 x) h = refl
 bits-kept (U32 n) h = refl
 bits-kept (F32 x) h = one-nan binary32 0x7FC00000 (nanBits-above binary32) nan-single x h
 bits-kept (F16 b) h = once half 0x7E00 b
+
+-- ---- a scalar with its NaN kept
+pub kept-sound : (s : Scalar) → Sound s → Sound (keptScalar s)
+kept-sound (bool x) h = h
+kept-sound (AbstractInt x) h = h
+kept-sound (AbstractFloat x) h = h
+kept-sound (I32 x) h = h
+kept-sound (U32 n) h = h
+kept-sound (F32 x) h = h
+kept-sound (F16 b) h = kept-half b h
+
+pub kept-type : (s : Scalar) → typeOf (keptScalar s) ≡ typeOf s
+kept-type s = elim s [ bool x ↦ refl | AbstractInt x ↦ refl | AbstractFloat x ↦ refl | I32 x ↦ refl | U32 x ↦ refl | F32 x ↦ refl | F16 x ↦ refl ]
+
+-- it has the same bits
+pub kept-bits : (s : Scalar) → bitsOf (keptScalar s) ≡ bitsOf s
+kept-bits (bool x) = refl
+kept-bits (AbstractInt x) = refl
+kept-bits (AbstractFloat x) = refl
+kept-bits (I32 x) = refl
+kept-bits (U32 n) = refl
+kept-bits (F32 x) = refl
+kept-bits (F16 b) = kept-once 6 b
 
 -- ---- the scalar of a pattern is sound
 pub found : (t : Bool) (s : Scalar) (ty : ℕ) → (t ≡ true → (typeOf s ≡ ty) × Sound s) → OfType ty (pick t (Value s) Nothing)

@@ -24,7 +24,7 @@ use Rattle.value.specs.declared.Pair.{Pair}
 use Rattle.value.specs.declared.Pair.the-variants as P
 use Rattle.value.specs.Pair.{bothOf}
 use Rattle.value.specs.Pattern.{properOf, Narrow, keptOf}
-use Rattle.value.specs.Scalar.{finiteOf, scalars, scalarAt, scalarOf}
+use Rattle.value.specs.Scalar.{finiteOf, keptScalar, scalars, scalarAt, scalarOf}
 use Rattle.value.proofs.Scalar.{the-type}
 
 -- ---- patterns
@@ -111,6 +111,16 @@ unfolding keptOf
 plain-kept ty b =
     by-code (λ ty. ((Unit {0} × (ty ≡ 2 → ⊥)) × (ty ≡ 5 → ⊥)) × (ty ≡ 6 → ⊥) → b ≡ keptOf ty b)
     (λ n. refl) (λ n. refl) (λ n. absurd (n .0 .0 .1 refl)) (λ n. refl) (λ n. refl) (λ n. absurd (n .0 .1 refl)) (λ n. absurd (n .1 refl)) (λ k n. refl) ty
+
+-- a scalar that is no F16
+pub others-kept : (s : Scalar) → OneOf (0 ∷ 1 ∷ 2 ∷ 3 ∷ 4 ∷ 5 ∷ []) (tagOf the-type s) → s ≡ keptScalar s
+others-kept (S.Bool x) o = refl
+others-kept (S.AbstractInt x) o = refl
+others-kept (S.AbstractFloat x) o = refl
+others-kept (S.I32 x) o = refl
+others-kept (S.U32 x) o = refl
+others-kept (S.F32 x) o = refl
+others-kept (S.F16 x) o = absurd (miss (0 ∷ 1 ∷ 2 ∷ 3 ∷ 4 ∷ 5 ∷ []) 6 tt o)
 
 -- a scalar of a type that is no float's
 pub whole-finite : (s : Scalar) → OneOf (0 ∷ 1 ∷ 3 ∷ 4 ∷ []) (tagOf the-type s) → true ≡ finiteOf s

@@ -44,6 +44,16 @@ bitsOf (U32 x) = x
 bitsOf (F32 x) = toBits single x
 bitsOf (F16 x) = keptOf 6 x
 
+-- "A NaN read or produced is kept": a scalar with its NaN's bits so; of the types, F16 alone is given by its bits
+abbrev pub keptScalar : Scalar → Scalar
+keptScalar (bool x) = bool x
+keptScalar (AbstractInt x) = AbstractInt x
+keptScalar (AbstractFloat x) = AbstractFloat x
+keptScalar (I32 x) = I32 x
+keptScalar (U32 x) = U32 x
+keptScalar (F32 x) = F32 x
+keptScalar (F16 x) = F16 (keptOf 6 x)
+
 -- the scalar of a pattern, one for each type
 abbrev pub scalars : ℕ → List Found
 scalars b =

@@ -1,5 +1,6 @@
 // One value of seven types, its pattern, and what an operator answers.
 pub mod pattern;
+pub mod refusals;
 
 ghost use mathlib.Core.Path.{_≡_};
 ghost use Rattle.value.specs.Answer.{strict, stageOf};

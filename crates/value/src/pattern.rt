@@ -6,7 +6,7 @@ use integer::patterns;
 ghost use mathlib.Core.Path.{_≡_};
 ghost use Rattle.value.specs.Pair.{bothOf};
 ghost use Rattle.value.specs.Pattern.{keptOf, Narrow};
-ghost use Rattle.value.specs.Scalar.{bitsOf, scalarAt, scalarOf};
+ghost use Rattle.value.specs.Scalar.{bitsOf, keptScalar, scalarAt, scalarOf};
 
 // The pattern of an F16 as it is kept.
 fn kept_half(bits: u16) -> u16
@@ -16,6 +16,16 @@ fn kept_half(bits: u16) -> u16
         return 0x7e00;
     }
     bits
+}
+
+// A scalar with the bits of a NaN as they are kept; no type but F16 is given by its bits.
+pub fn kept_scalar(s: Scalar) -> Scalar
+    ensures { λ r. ⌜ r ≡ keptScalar s ⌝ }
+{
+    match s {
+        Scalar::F16(bits) => Scalar::F16(kept_half(bits)),
+        _ => s,
+    }
 }
 
 // The bits of a scalar.

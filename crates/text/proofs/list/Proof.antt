@@ -17,7 +17,7 @@ returns c =
     let whole : length (entries .before .before .args .out .now) ≡ 65536 = search needs in
     let next = feed .text .ensures .next in
     let head = then (label .labelled .ensures .0) (feed .text .ensures) (omega arith) in
-    (rw (← entries .entries .ensures .0) (then head (c .put .ensures .0) (omega arith)), counts-text (c .put .result) (c .put .last .0) (omega arith))
+    (rw (← entries .entries .ensures .0) (then head (c .put .ensures .0) (omega arith)), (counts-text (c .put .result) (c .put .last .0) (omega arith), omega arith))
 
 pub list-spec : {M : Type 1} → statement M
 list-spec =

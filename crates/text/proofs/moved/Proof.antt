@@ -16,7 +16,7 @@ returns c =
     let whole : length (label .before .before .before .args .out .now) ≡ 65536 = search needs in
     let next = c .text .ensures .next in
     let named = then (label .labelled .ensures .0) (movers .put .ensures .0) (omega arith) in
-    (then named (c .text .ensures) (omega arith), counts-text (c .text .result) (c .text .last .0) (omega arith))
+    (then named (c .text .ensures) (omega arith), (counts-text (c .text .result) (c .text .last .0) (omega arith), omega arith))
 
 pub moved-spec : {M : Type 1} → statement M
 moved-spec = tie.close (tie.spec (λ c. search needs) (λ c κs. search needs) (λ c κs. search needs) (λ c. search needs) (λ c κs. search needs) returns)

@@ -14,7 +14,7 @@ returns c =
     let label = c .before .before .before in
     let whole : length (label .before .before .before .args .out .now) ≡ 65536 = search needs in
     let next = c .text .ensures .next in
-    (then (label .labelled .ensures .0) (c .text .ensures) (omega arith), counts-text (c .text .result) (c .text .last .0) (omega arith))
+    (then (label .labelled .ensures .0) (c .text .ensures) (omega arith), (counts-text (c .text .result) (c .text .last .0) (omega arith), omega arith))
 
 pub refuse-spec : {M : Type 1} → statement M
 refuse-spec = tie.close (tie.spec (λ c. search needs) (λ c κs. search needs) (λ c. search needs) (λ c κs. search needs) returns)

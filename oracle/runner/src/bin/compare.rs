@@ -1,7 +1,7 @@
 //! `compare list FILE [EVERY]`: writes the generated cases (every EVERYth of them) with the Rust text's answers as an `ops` list.
 //! `compare file FILE`: compares the text with the answers of an `ops` list, over that list's cases.
-//! `compare booth`: compares the text with the linked library over all generated cases (feature `booth`).
-//! Ends with status 1 if some difference stands under no line, or, over the generated cases, if some line was never needed.
+//! `compare booth [EVERY]`: compares the text with the linked library over the generated cases, every EVERYth of them (feature `booth`).
+//! Ends with status 1 if some difference stands under no line, or, over all generated cases, if some line was never needed.
 use std::{env, fs, process::ExitCode};
 
 use runner::{
@@ -40,17 +40,27 @@ fn file(name: &str) -> Result<bool, String> {
 }
 
 #[cfg(feature = "booth")]
-fn booth() -> Result<bool, String> {
+fn booth(every: u64) -> Result<bool, String> {
     let mut side = runner::side::Linked;
     let mut report = Report::default();
-    let mut failed = None;
-    cases::each(SEED, &mut |case| match side.answer(&case) {
-        Ok(answer) => report.add(&case, answer),
-        Err(words) => {
-            failed.get_or_insert(format!("{}: {words}", runner::report::case(&case)));
+    let (mut failed, mut count) = (None, 0u64);
+    cases::each(SEED, &mut |case| {
+        count += 1;
+        if count % every != 0 {
+            return;
+        }
+        match side.answer(&case) {
+            Ok(answer) => report.add(&case, answer),
+            Err(words) => {
+                failed.get_or_insert(format!("{}: {words}", runner::report::case(&case)));
+            }
         }
     });
     report.print();
+    if every > 1 {
+        println!("{} of {count} generated cases compared", report.cases);
+        return failed.map_or(Ok(report.cases > 0 && report.unexplained == 0), Err);
+    }
     let unseen = report.never_needed();
     if !unseen.is_empty() {
         println!("lines never needed: {}", unseen.join(" "));
@@ -62,8 +72,13 @@ fn booth() -> Result<bool, String> {
 }
 
 #[cfg(not(feature = "booth"))]
-fn booth() -> Result<bool, String> {
+fn booth(_: u64) -> Result<bool, String> {
     Err("built without the feature booth".into())
+}
+
+/// The number of cases from one that is taken to the next.
+fn step(word: &str) -> Result<u64, String> {
+    word.parse().ok().filter(|&n| n > 0).ok_or_else(|| format!("EVERY is a number from 1 on, not {word}"))
 }
 
 fn main() -> ExitCode {
@@ -72,12 +87,11 @@ fn main() -> ExitCode {
     let words: Vec<&str> = words.iter().map(String::as_str).collect();
     let done = match words[..] {
         ["list", name] => list(name, 1),
-        ["list", name, every] => {
-            every.parse().map_err(|_| "EVERY is a number".into()).and_then(|n: u64| list(name, n.max(1)))
-        }
+        ["list", name, every] => step(every).and_then(|n| list(name, n)),
         ["file", name] => file(name),
-        ["booth"] => booth(),
-        _ => Err("compare list FILE [EVERY] | compare file FILE | compare booth".into()),
+        ["booth"] => booth(1),
+        ["booth", every] => step(every).and_then(booth),
+        _ => Err("compare list FILE [EVERY] | compare file FILE | compare booth [EVERY]".into()),
     };
     match done {
         Ok(true) => ExitCode::SUCCESS,

@@ -33,7 +33,7 @@ returns-4 c =
     let k = c .before .before .before .before .before .before in
     met-in (a .l) (a .r) (e .before .before .type-of .ensures) (e .before .type-of2 .ensures) (e .common .ensures)
     (k .before .before .before .before .ty .given .1) (k .before .before .convert .ensures) (k .x .given .1)
-    (c .before .before .before .before .convert2 .ensures) (c .before .before .y .given .1) (c .pair .ensures)
+    (c .before .before .before .before .convert2 .ensures) (c .before .before .y .given .1) (c .paired .ensures)
 
 pub common-spec : {M : Type 1} → statement M
 common-spec =

@@ -1,27 +1,25 @@
 -- `relation::comparison::compare_reals` meets its contract. Assumes nothing.
-use mathlib.Core.Path.{_∙_}
-use Rattle.rounding.proofs.Same.{eq-is, lt-is}
-use Rattle.relation.proofs.Relations.{le-is, ne-is, last-reals}
+use Rattle.relation.proofs.Relations.{last-reals}
 use Rattle.relation.proofs.comparison.compare_reals.Statement.{statement}
 use Rattle.relation.proofs.comparison.compare_reals.Tie as tie
 
 returns : tie.Need-returns
-returns c = rw (c .match .keys1) (eq-is _ _)
+returns c = rw (c .match .keys1)
 
 returns-2 : tie.Need-returns-2
-returns-2 c = rw (c .match .keys2) (ne-is _ _)
+returns-2 c = rw (c .match .keys2)
 
 returns-3 : tie.Need-returns-3
-returns-3 c = rw (c .match .keys3) (lt-is _ _)
+returns-3 c = rw (c .match .keys3)
 
 returns-4 : tie.Need-returns-4
-returns-4 c = rw (c .match .keys4) (le-is _ _)
+returns-4 c = rw (c .match .keys4)
 
 returns-5 : tie.Need-returns-5
-returns-5 c = rw (c .match .keys5) (lt-is _ _)
+returns-5 c = rw (c .match .keys5)
 
 returns-6 : tie.Need-returns-6
-returns-6 c = le-is _ _ ∙ last-reals _ (c .match .rest) _ _
+returns-6 c = last-reals _ (c .match .rest) _ _
 
 pub compare-reals-spec : {M : Type 1} → statement M
 compare-reals-spec = tie.close (tie.spec returns returns-2 returns-3 returns-4 returns-5 returns-6)

@@ -1,0 +1,6 @@
+-- The proof of the demand.
+pub mod Asked
+pub mod Amends
+pub mod Meets
+pub mod Calls
+pub mod Example

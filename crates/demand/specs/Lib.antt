@@ -1,0 +1,2 @@
+-- The demand on a change, stated over bytes.
+pub mod Demand
