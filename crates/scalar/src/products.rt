@@ -16,6 +16,7 @@ ghost use mathlib.Core.Bool.{_&&_, not};
 ghost use mathlib.Core.Path.{_≡_};
 ghost use Rattle.value.specs.Answer.{refusal};
 ghost use Rattle.value.specs.Pattern.{pick};
+ghost use Rattle.value.specs.Refusals as No;
 ghost use Rattle.scalar.specs.Step.{stepOf, productAdded};
 
 // In any type: one step, and another with its bits.
@@ -45,7 +46,7 @@ pub(crate) fn f32_times(stage: u8, l: u32, r: u32) -> Step
 {
     let p = f32_of_bits(l) * f32_of_bits(r);
     let bits = f32_bits(p) as u64;
-    checked(stage < 2, finite_f32(p), 6, 5, bits)
+    checked(stage < 2, finite_f32(p), refusals::MUL_OVERFLOW, 5, bits)
 }
 
 // The product in F64: every stage asks for finite results.
@@ -53,7 +54,7 @@ pub(crate) fn f64_times(stage: u8, l: u64, r: u64) -> Step
     ensures { λ a. ⌜ a ≡ stepOf 5 stage 2 l r ⌝ }
 {
     let p = f64_of_bits(l) * f64_of_bits(r);
-    checked(true, finite_f64(p), 6, 2, f64_bits(p))
+    checked(true, finite_f64(p), refusals::MUL_OVERFLOW, 2, f64_bits(p))
 }
 
 // The product in F16: worked in F32 and rounded; finite results are asked for as in F32.
@@ -62,17 +63,17 @@ pub(crate) fn half_times(stage: u8, l: u16, r: u16) -> Step
 {
     let p = f32_to_half(half_to_f32(l) * half_to_f32(r));
     let bits = p as u64;
-    checked(stage < 2, finite_half(p), 6, 6, bits)
+    checked(stage < 2, finite_half(p), refusals::MUL_OVERFLOW, 6, bits)
 }
 
 // The sum's bits; or, where finite results are asked for, the refusal of a product that is not finite, and then that of a sum.
 fn outcome(asked: bool, product: bool, sum: bool, ty: u8, bits: u64) -> Step
-    ensures { λ a. ⌜ a ≡ pick (asked && not product) (Step.Refused (refusal 6 0)) (pick (asked && not sum) (Step.Refused (refusal 4 0)) (Step.Bits ty bits)) ⌝ }
+    ensures { λ a. ⌜ a ≡ pick (asked && not product) (Step.Refused (refusal No.MulOverflow 0)) (pick (asked && not sum) (Step.Refused (refusal No.AddOverflow 0)) (Step.Bits ty bits)) ⌝ }
 {
     if asked & !product {
         return refuse(refusals::MUL_OVERFLOW, 0);
     }
-    checked(asked, sum, 4, ty, bits)
+    checked(asked, sum, refusals::ADD_OVERFLOW, ty, bits)
 }
 
 // The sum with a product in F32.

@@ -11,6 +11,7 @@ use pairing::unary_known;
 use scalar::Conv;
 use scalar::Step;
 use value::Refusal;
+use value::refusals;
 ghost use mathlib.Core.Path.{_≡_};
 ghost use mathlib.Core.Bool.{true};
 ghost use Rattle.scalar.specs.Step.{refusal};
@@ -55,17 +56,17 @@ pub(crate) fn unary(op: u8, stage: u8, ty: u8, bits: u64) -> Step
     ensures { λ s. ⌜ stepAnswer s ≡ unaryMeaning op stage (aScalar ty bits) ⌝ }
 {
     if !unary_known(op) {
-        return refuse(25);
+        return refuse(refusals::BAD_NODE);
     }
     if !stage_known(stage) {
-        return refuse(23);
+        return refuse(refusals::BAD_STAGE);
     }
     if !value::proper(ty, bits) {
-        return refuse(26);
+        return refuse(refusals::BAD_VALUE);
     }
     let step = scalar::unary_step(op, ty, bits);
     let Step::Bits(_, answer) = step else {
-        return refuse(1);
+        return refuse(refusals::UNARY);
     };
     Step::Bits(ty, answer)
 }
@@ -91,11 +92,11 @@ fn convert(op: u8, stage: u8, x: u8, y: u8, lt: u8, l: u64, rt: u8, r: u64) -> S
     }
     let left = scalar::convert_step(lt, x, l);
     let Conv::Bits(p) = left else {
-        return refuse(2);
+        return refuse(refusals::BINARY);
     };
     let right = scalar::convert_step(rt, y, r);
     let Conv::Bits(q) = right else {
-        return refuse(2);
+        return refuse(refusals::BINARY);
     };
     operate(op, stage, x, p, q)
 }
@@ -107,7 +108,7 @@ fn judge(op: u8, stage: u8, lt: u8, l: u64, rt: u8, r: u64) -> Step
 {
     let targets = targets_of(op, lt, rt);
     let Targets::Types(x, y) = targets else {
-        return refuse(2);
+        return refuse(refusals::BINARY);
     };
     convert(op, stage, x, y, lt, l, rt, r)
 }
@@ -117,16 +118,16 @@ pub(crate) fn binary(op: u8, stage: u8, lt: u8, l: u64, rt: u8, r: u64) -> Step
     ensures { λ s. ⌜ stepAnswer s ≡ binaryMeaning op stage (aScalar lt l) (aScalar rt r) ⌝ }
 {
     if !op_known(op) {
-        return refuse(25);
+        return refuse(refusals::BAD_NODE);
     }
     if !stage_known(stage) {
-        return refuse(23);
+        return refuse(refusals::BAD_STAGE);
     }
     if !value::proper(lt, l) {
-        return refuse(26);
+        return refuse(refusals::BAD_VALUE);
     }
     if !value::proper(rt, r) {
-        return refuse(26);
+        return refuse(refusals::BAD_VALUE);
     }
     judge(op, stage, lt, l, rt, r)
 }
