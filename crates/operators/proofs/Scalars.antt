@@ -37,7 +37,8 @@ module _ (l r : Scalar) (hl : Sound l) (hr : Sound r) where
 
   -- the codes 1 to 18, in the order `op_or` to `op_shr`
   pub two-scalars : (stage : ShaderStage) → (
-      map (λ op. binaryMeaning op (stageCode stage) (operandOf l) (operandOf r)) (1 ∷ 2 ∷ 3 ∷ 4 ∷ 5 ∷ 6 ∷ 7 ∷ 8 ∷ 9 ∷ 10 ∷ 11 ∷ 12 ∷ 13 ∷ 14 ∷ 15 ∷ 16 ∷ 17 ∷ 18 ∷ [])
+      map (λ op. binaryMeaning op (stageCode stage) (operandOf l) (operandOf r))
+      (1 ∷ 2 ∷ 3 ∷ 4 ∷ 5 ∷ 6 ∷ 7 ∷ 8 ∷ 9 ∷ 10 ∷ 11 ∷ 12 ∷ 13 ∷ 14 ∷ 15 ∷ 16 ∷ 17 ∷ 18 ∷ [])
       ≡ map resultAnswer (
       orOf (pairOf l r) ∷ andOf (pairOf l r)
       ∷ addOf stage (commonOf l r) ∷ subOf stage (commonOf l r) ∷ mulOf stage (commonOf l r) ∷ divOf stage (commonOf l r) ∷ remOf stage (commonOf l r)

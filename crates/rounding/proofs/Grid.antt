@@ -182,7 +182,8 @@ module _ (num den : ℕ) (D : 0 < den) (u v : ℕ) (o : OfKind half u) (o' : OfK
       twice-either : Either (s * 2) (o .significand * 2 ^ suc (o .exponent)) (o' .significand * 2 ^ suc (o' .exponent))
       twice-either =
           subst (λ (z : ℕ). Either (s * 2) z (o' .significand * 2 ^ suc (o' .exponent))) (doubled u o)
-          (subst (λ (z : ℕ). Either (s * 2) (u * 2) z) (doubled v o') (elim e [ inl g ↦ inl (ap (λ (x : ℕ). x * 2) g ∙ add-mul u v 2) | inr g ↦ inr (ap (λ (x : ℕ). x * 2) g ∙ sym (scaled u v 2)) ]))
+          (subst (λ (z : ℕ). Either (s * 2) (u * 2) z) (doubled v o')
+          (elim e [ inl g ↦ inl (ap (λ (x : ℕ). x * 2) g ∙ add-mul u v 2) | inr g ↦ inr (ap (λ (x : ℕ). x * 2) g ∙ sym (scaled u v 2)) ]))
 
       same : Within (2 ^ 24) (c * 2 ^ j) (s * 2) → c * 2 ^ j ≡ s * 2
       same l =

@@ -72,7 +72,8 @@ unfolding ofBits ofFields odd trailingZeros
 all-finite = (refl, refl, refl)
 
 -- ---- wrong results that "rounded once" excludes: each has other bits than the result itself
-excluded : (k : Kind) → Sized k → (s : Bool) (x : Exact) → 0 < x .bottom → {r : Float} (wrong : Float) → RoundedOnce k s x r → (toBits k r ≡ toBits k wrong → ⊥) → RoundedOnce k s x wrong → ⊥
+excluded : (k : Kind) → Sized k → (s : Bool) (x : Exact) → 0 < x .bottom → {r : Float} (wrong : Float)
+    → RoundedOnce k s x r → (toBits k r ≡ toBits k wrong → ⊥) → RoundedOnce k s x wrong → ⊥
 excluded k sized s x D {r} wrong h n w = n (one-rounded k sized s x D r wrong h w)
 
 abbrev one : Float

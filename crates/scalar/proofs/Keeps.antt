@@ -302,7 +302,8 @@ module _ (ty : ℕ) where
   exact-kept : (s : Scalar) (n : ℕ) → n < 4294967296 → (typeOf s ≡ ty) × Sound s → Kept ty (shlExact s n)
   exact-kept (bool x) n z h = no-binary
   exact-kept (AbstractInt x) n z h =
-      chosen ty (inSigned w64 (x *ℤ pos (2 ^ n))) (value (AbstractInt (x *ℤ pos (2 ^ n)))) (refused (refusal No.ShlOverflow n)) (λ e. (h .0, signed-in w64 (x *ℤ pos (2 ^ n)) e)) (λ e. over-left n z)
+      chosen ty (inSigned w64 (x *ℤ pos (2 ^ n))) (value (AbstractInt (x *ℤ pos (2 ^ n)))) (refused (refusal No.ShlOverflow n))
+      (λ e. (h .0, signed-in w64 (x *ℤ pos (2 ^ n)) e)) (λ e. over-left n z)
   exact-kept (AbstractFloat x) n z h = no-binary
   exact-kept (I32 x) n z h =
       chosen ty (shlOver w32 x n) (refused (refusal No.ShlOverflow n)) (value (I32 (x *ℤ pos (2 ^ n)))) (λ e. over-left n z)
