@@ -4,7 +4,7 @@ use mathlib.Core.Path.{_≡_, refl}
 use mathlib.Core.List.{List, [], _∷_}
 use Prim.Native.Nat.{ℕ}
 use Rattle.words.specs.Spelling.{lowDigit, letterDigit, digitOf, onwards, digitsOnly, spelled}
-use Rattle.words.specs.Split.{before, behind, wordAt}
+use Rattle.words.specs.Split.{before, behind, wordAt, nextPlace, wordPlace}
 use Rattle.asked.specs.declared.asked.Asked.the-variants.{Change, Bad}
 use Rattle.asked.specs.Asked.{dashV, verbose, sheetAt, numbered, askedAt, askedFrom, firstBad}
 
@@ -38,3 +38,8 @@ name-after = refl
 pub name-told : wordAt (sheetAt (line 52)) (line 52) ≡ 115 ∷ []
 unfolding sheetAt verbose dashV before behind wordAt
 name-told = refl
+
+-- sheet_word: a later word of the same bytes is not the sheet's name
+pub name-place : (wordAt 3 (line 115) ≡ wordAt (sheetAt (line 115)) (line 115)) × (wordPlace (sheetAt (line 115)) (line 115) ≡ 3)
+unfolding sheetAt verbose dashV before behind wordAt nextPlace wordPlace
+name-place = (refl, refl)

@@ -1,7 +1,7 @@
 // The sheet's name among the words.
 ghost use mathlib.Core.Path.{_≡_};
 ghost use Prim.Native.Nat.{_≤_};
-ghost use Rattle.words.specs.Split.{wordAt};
+ghost use Rattle.words.specs.Split.{WordOf};
 ghost use Rattle.asked.specs.Asked.{dashV, sheetAt};
 
 // Whether a word is `-v`.
@@ -21,9 +21,9 @@ pub fn sheet_at(line: &[u8]) -> usize
     if dash_v(words::word(line, 0)) { 1 } else { 0 }
 }
 
-// The sheet's name.
+// The sheet's name, as a part of the line.
 pub fn sheet_word(line: &[u8]) -> &[u8]
-    ensures { λ r. ⌜ now r ≡ wordAt (sheetAt (now (line .entry))) (now (line .entry)) ⌝ }
+    ensures { λ r. ⌜ WordOf (line .entry) (sheetAt (now (line .entry))) r ⌝ }
 {
     words::word(line, sheet_at(line))
 }

@@ -6,9 +6,12 @@ use mathlib.Core.List.{List, [], _∷_, _++_, map}
 use mathlib.Core.Logic.{⊎-elim}
 use native.Mathlib.Omega.{arith}
 use lib.Dec.{eqb, ltb, leb}
-use lib.ListN.{length, getD, take, drop, length-append, length-take}
+use lib.ListN.{length, getD, length-take}
 use borrow.Author.Tests.{leb-true}
-use Rattle.value.specs.Pattern.{pick, properOf}
+use Rattle.low.specs.Bytes.{part}
+use Rattle.low.specs.Read.{Read, found, refused, must, thenRead, readAs, placedFrom, there}
+use Rattle.types.specs.Edition.{Edition, plain}
+use Rattle.value.specs.Pattern.{pick}
 use Rattle.operand.specs.declared.Outcome.{Outcome}
 use Rattle.operand.specs.Outcome.{refusedWith}
 use Rattle.operand.proofs.Answers.{Answers, Value, Refusing}
@@ -16,14 +19,18 @@ use Rattle.dispatch.specs.Meaning.{refuseUnless}
 use Rattle.dispatch.proofs.Outcomes.{Outcomes}
 use Rattle.sheet.specs.declared.Head.{Head}
 use Rattle.sheet.specs.declared.Head.the-variants as head
-use Rattle.sheet.specs.Read.{Read, found, refused, must, thenRead, readAs, placedFrom, there}
+use Rattle.sheet.specs.declared.Kind.{Kind}
+use Rattle.sheet.specs.declared.Kind.the-variants as kind
 use Rattle.sheet.specs.Tree.{Expr, literal, unary, binary, Entry, setting, expression, entryStage}
 use Rattle.sheet.specs.Node.{Tag, isLiteral, isReference, isOperator, unknown, tagOf, onTag, allProper, literalHead, literalCount, literalOk, readComponents, readLiteral}
 use Rattle.sheet.specs.Node.{readReference, operatorKnown, operands, readOperator, readNode}
-use Rattle.sheet.specs.Record.{bodyLen, readHead, bodyAt, readSetting, readExpression, readBody, onHead, readRecord}
-use Rattle.sheet.specs.Sheet.{readRecords, readSheet}
-use Rattle.fold.specs.Fresh.{entryAt, sized}
-use Rattle.fold.specs.Change.{isSetting, settingType, faultOf}
+use Rattle.sheet.specs.Stage.{stageKnown, kindOf}
+use Rattle.sheet.specs.Record.{bodyLen, readHead, readSetting, readKind, readBody, onHead, readRecord}
+use Rattle.sheet.specs.Sheet.{Sheet, sheetOf, readRecords, readFrom, readSheet}
+use Rattle.entries.specs.Entries.{entryAt, isSetting, settingType}
+use Rattle.entries.proofs.Places.{few}
+use Rattle.fold.specs.Fresh.{sized}
+use Rattle.fold.specs.Change.{properIn, faultOf}
 use Rattle.booth.specs.Operand.{callRefused, intoSlot}
 
 -- ---- reading a body
@@ -47,18 +54,18 @@ unfolding readAs
 as-within m f (found a n) h = h
 as-within m f (refused k p) h = h
 
-module _ (b : List ℕ) where
+module _ (e : Edition) (b : List ℕ) where
   components-within : (at : ℕ) → at ≤ length b → Within (length b) (readComponents (literalHead b at) (literalCount b at) b at)
   components-within at l =
       must-within (length b) (there b (at + 4) (8 * literalCount b at)) _ _ (omega arith, omega arith) (λ t.
       must-within (length b) (allProper (getD b (at + 1) 0) (literalCount b at) b (at + 4)) _ _ (omega arith, l) (λ p.
       leb-true (at + 4 + 8 * literalCount b at) (length b) t))
 
-  literal-within : (single : Bool) (at : ℕ) → at ≤ length b → Within (length b) (readLiteral single b at)
+  literal-within : (single : Bool) (at : ℕ) → at ≤ length b → Within (length b) (readLiteral e single b at)
   unfolding readLiteral
   literal-within single at l =
       must-within (length b) (there b at 4) _ _ (omega arith, omega arith) (λ t.
-      must-within (length b) (literalOk single (literalHead b at)) _ _ (omega arith, l) (λ p. components-within at l))
+      must-within (length b) (literalOk e single (literalHead b at)) _ _ (omega arith, l) (λ p. components-within at l))
 
   reference-within : (stages : List ℕ) (own at : ℕ) → at ≤ length b → Within (length b) (readReference stages own b at)
   unfolding readReference
@@ -81,39 +88,36 @@ module _ (b : List ℕ) where
         must-within (length b) (operatorKnown two (getD b (at + 1) 0)) _ _ (omega arith, l) (λ p.
         operands-within two at (getD b (at + 1) 0) (at + 2) (leb-true (at + 2) (length b) t)))
 
-    tag-within : (t : Tag) (stages : List ℕ) (own at : ℕ) → at ≤ length b → Within (length b) (onTag t below stages own b at)
+    tag-within : (t : Tag) (stages : List ℕ) (own at : ℕ) → at ≤ length b → Within (length b) (onTag e t below stages own b at)
     unfolding onTag
-    tag-within isLiteral stages own at l = as-within (length b) literal (readLiteral false b at) (literal-within false at l)
+    tag-within isLiteral stages own at l = as-within (length b) literal (readLiteral e false b at) (literal-within false at l)
     tag-within isReference stages own at l = reference-within stages own at l
     tag-within (isOperator two) stages own at l = operator-within two at l
     tag-within unknown stages own at l = (omega arith, l)
 
-  node-within : (levels : ℕ) (stages : List ℕ) (own at : ℕ) → at ≤ length b → Within (length b) (readNode levels stages own b at)
+  node-within : (levels : ℕ) (stages : List ℕ) (own at : ℕ) → at ≤ length b → Within (length b) (readNode e levels stages own b at)
   unfolding readNode
   node-within zero stages own at l = (omega arith, l)
   node-within (suc levels) stages own at l =
       must-within (length b) (there b at 1) _ _ (omega arith, omega arith) (λ t.
-      tag-within (readNode levels stages own b) (node-within levels stages own) (tagOf (getD b at 0)) stages own at l)
+      tag-within (readNode e levels stages own b) (node-within levels stages own) (tagOf (getD b at 0)) stages own at l)
 
-  setting-within : Within (length b) (readSetting b)
+  setting-within : Within (length b) (readSetting e b)
   unfolding readSetting
   setting-within =
       must-within (length b) (there b 0 1) _ _ (omega arith, omega arith) (λ t.
       must-within (length b) (eqb (getD b 0 0) 1) _ _ (omega arith, omega arith) (λ p.
-      as-within (length b) setting (readLiteral true b 0) (literal-within true 0 (omega arith))))
+      as-within (length b) setting (readLiteral e true b 0) (literal-within true 0 (omega arith))))
 
-  expression-within : (stages : List ℕ) (stage : ℕ) → Within (length b) (readExpression stages stage b)
-  unfolding readExpression
-  expression-within stages stage = go (eqb stage 3)
-    where
-      go : (t : Bool) → Within (length b) (pick t (readSetting b) (readAs (expression stage) (readNode 32 stages stage b 0)))
-      go true = setting-within
-      go false = as-within (length b) (expression stage) (readNode 32 stages stage b 0) (node-within 32 stages stage 0 (omega arith))
+  kind-within : (k : Kind) (stages : List ℕ) (stage : ℕ) → Within (length b) (readKind e k stages stage b)
+  unfolding readKind
+  kind-within kind.Setting stages stage = setting-within
+  kind-within kind.Expression stages stage = as-within (length b) (expression stage) (readNode e 32 stages stage b 0) (node-within 32 stages stage 0 (omega arith))
 
-  body-within : (stages : List ℕ) (stage : ℕ) → Within (length b) (readBody stages stage b)
+  body-within : (stages : List ℕ) (stage : ℕ) → Within (length b) (readBody e stages stage b)
   unfolding readBody
   body-within stages stage =
-      then-within (length b) (readExpression stages stage b) _ (expression-within stages stage) (λ e n h.
+      then-within (length b) (readKind e (kindOf stage) stages stage b) _ (kind-within (kindOf stage) stages stage) (λ x n h.
       must-within (length b) (leb (length b) n) _ _ (omega arith, h) (λ t. h))
 
 -- ---- a record
@@ -136,72 +140,65 @@ unfolding readHead
 head-within s at l =
     must-head (length s) (there s at 5) _ _ (omega arith, omega arith) (λ t.
     must-head (length s) _ _ _ (omega arith, l) (λ p.
-    must-head (length s) (leb (getD s (at + 2) 0) 3) _ _ (omega arith, omega (arith, leb-true (at + 5) (length s) t)) (λ q.
+    must-head (length s) (stageKnown (getD s (at + 2) 0)) _ _ (omega arith, omega (arith, leb-true (at + 5) (length s) t)) (λ q.
     must-head (length s) (there s (at + 5) (bodyLen s at)) _ _ (omega arith, omega arith) (λ r. leb-true (at + 5 + bodyLen s at) (length s) r))))
 
-body-long : (s : List ℕ) (start len : ℕ) → length (bodyAt s start len) ≤ len
-unfolding bodyAt
-body-long s start len = go (there s start len)
-  where
-    go : (t : Bool) → length (pick t (take len (drop start s)) []) ≤ len
-    go true = simp length-take (omega arith)
-    go false = omega arith
+body-long : (s : List ℕ) (start len : ℕ) → length (part s start len) ≤ len
+unfolding part
+body-long s start len = simp length-take (omega arith)
 
-record-within : (stages s : List ℕ) (at : ℕ) → at ≤ length s → Within (length s) (readRecord stages s at)
+record-within : (e : Edition) (stages s : List ℕ) (at : ℕ) → at ≤ length s → Within (length s) (readRecord e stages s at)
 unfolding readRecord
-record-within stages s at l = go (readHead s at) (head-within s at l)
+record-within e stages s at l = go (readHead s at) (head-within s at l)
   where
-    go : (h : Head) → HeadWithin (length s) h → Within (length s) (onHead h stages s)
+    go : (h : Head) → HeadWithin (length s) h → Within (length s) (onHead e h stages s)
     go (head.Record stage start len) h =
-        placed-within (length s) (length (bodyAt s start len)) start (readBody stages stage (bodyAt s start len)) (body-within (bodyAt s start len) stages stage)
+        placed-within (length s) (length (part s start len)) start (readBody e stages stage (part s start len)) (body-within e (part s start len) stages stage)
         (omega (arith, h, body-long s start len))
     go (head.Refused k p) h = h
 
 -- ---- a sheet
--- at most 128 entries, or a refusal at a place up to m
-abbrev pub SheetWithin : ℕ → Read (List Entry) → Type 0
-SheetWithin m (found es n) = length es ≤ 128
-SheetWithin m (refused k p) = (k ≤ 32) × (p ≤ m)
-
-then-records : (m : ℕ) (q : Read Entry) (k : Entry → ℕ → Read (List Entry)) → Within m q → ((e : Entry) (n : ℕ) → n ≤ m → SheetWithin m (k e n)) → SheetWithin m (thenRead q k)
-unfolding thenRead
-then-records m (found e n) k h f = f e n h
-then-records m (refused j p) k h f = h
-
-records-within : (room : ℕ) (s : List ℕ) (done : List Entry) (at : ℕ) → length done + room ≤ 128 → at ≤ length s → SheetWithin (length s) (readRecords room s done at)
+records-within : (e : Edition) (room : ℕ) (s : List ℕ) (done : List Entry) (at : ℕ) → at ≤ length s → Within (length s) (readRecords e room s done at)
 unfolding readRecords
-records-within zero s done at h l = go (ltb at (length s))
+records-within e zero s done at l = go (ltb at (length s))
   where
-    go : (t : Bool) → SheetWithin (length s) (pick t (refused 24 at) (found done at))
+    go : (t : Bool) → Within (length s) (pick t (refused 24 at) (found done at))
     go true = (omega arith, l)
-    go false = omega arith
-records-within (suc room) s done at h l =
-    go (ltb at (length s)) (λ e n k. records-within room s (done ++ e ∷ []) n (omega (arith, h, length-append done (e ∷ []))) k)
+    go false = l
+records-within e (suc room) s done at l = go (ltb at (length s)) (λ x n k. records-within e room s (done ++ x ∷ []) n k)
   where
-    go : (t : Bool) → ((e : Entry) (n : ℕ) → n ≤ length s → SheetWithin (length s) (readRecords room s (done ++ e ∷ []) n))
-        → SheetWithin (length s) (pick t (thenRead (readRecord (map entryStage done) s at) (λ e n. readRecords room s (done ++ e ∷ []) n)) (found done at))
-    go true f = then-records (length s) (readRecord (map entryStage done) s at) _ (record-within (map entryStage done) s at l) f
-    go false f = omega arith
+    go : (t : Bool) → ((x : Entry) (n : ℕ) → n ≤ length s → Within (length s) (readRecords e room s (done ++ x ∷ []) n))
+        → Within (length s) (pick t (thenRead (readRecord e (map entryStage done) s at) (λ x n. readRecords e room s (done ++ x ∷ []) n)) (found done at))
+    go true f = then-within (length s) (readRecord e (map entryStage done) s at) _ (record-within e (map entryStage done) s at l) f
+    go false f = l
 
-must-sheet : (m : ℕ) (t : Bool) (r x : Read (List Entry)) → SheetWithin m r → (t ≡ true → SheetWithin m x) → SheetWithin m (must t r x)
-unfolding must
-must-sheet m true r x h f = f refl
-must-sheet m false r x h f = h
-
-wider : (m n : ℕ) (q : Read (List Entry)) → m ≤ n → SheetWithin m q → SheetWithin n q
-wider m n (found es e) l h = h
+wider : {A : Type 0} (m n : ℕ) (q : Read A) → m ≤ n → Within m q → Within n q
+wider m n (found a e) l h = omega (arith, l, h)
 wider m n (refused k p) l h = (h .0, omega (arith, l, h .1))
 
+places-within : (s : List ℕ) → Within 16384 (readSheet s)
+unfolding readSheet readFrom
+places-within s =
+    must-within 16384 (leb (length s) 16384) _ _ (omega arith, omega arith) (λ t.
+    wider (length s) 16384 (readFrom plain 0 s) (leb-true (length s) 16384 t)
+    (as-within (length s) (sheetOf plain 0) (readRecords plain 128 s [] 0) (records-within plain 128 s [] 0 (omega arith))))
+
+-- at most 128 entries, or a refusal at a place up to m
+abbrev pub SheetWithin : ℕ → Read Sheet → Type 0
+SheetWithin m (found sh n) = length (sh .entries) ≤ 128
+SheetWithin m (refused k p) = (k ≤ 32) × (p ≤ m)
+
 pub sheet-within : (s : List ℕ) → SheetWithin 16384 (readSheet s)
-unfolding readSheet
-sheet-within s =
-    must-sheet 16384 (leb (length s) 16384) _ _ (omega arith, omega arith) (λ t.
-    wider (length s) 16384 (readRecords 128 s [] 0) (leb-true (length s) 16384 t) (records-within 128 s [] 0 (omega arith) (omega arith)))
+sheet-within s = go (readSheet s) refl (places-within s)
+  where
+    go : (q : Read Sheet) → readSheet s ≡ q → Within 16384 q → SheetWithin 16384 q
+    go (found sh n) e h = few s sh n e
+    go (refused k p) e h = h
 
 -- ---- a change
-pub fault-small : (es : List Entry) (size i ty bits : ℕ) → faultOf es size i ty bits ≤ 32
+pub fault-small : (sh : Sheet) (size i ty bits : ℕ) → faultOf sh size i ty bits ≤ 32
 unfolding faultOf must
-fault-small es size i ty bits = go (sized es size) (isSetting (entryAt es i)) (properOf ty bits) (eqb ty (settingType (entryAt es i)))
+fault-small sh size i ty bits = go (sized sh size) (isSetting (entryAt sh i)) (properIn (sh .edition) ty bits) (eqb ty (settingType (entryAt sh i)))
   where
     go : (a b c d : Bool) → must a 30 (must b 31 (must c 26 (must d 32 0))) ≤ 32
     go true true true true = omega arith

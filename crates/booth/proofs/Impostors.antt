@@ -3,30 +3,31 @@ use mathlib.Core.Path.{_≡_, refl}
 use mathlib.Core.List.{List, [], _∷_, map}
 use Prim.Native.Nat.{ℕ}
 use lib.ListN.{replicate}
+use Rattle.low.specs.Read.{must, thenRead, readAs}
 use Rattle.operand.specs.declared.Instance.{Instance}
 use Rattle.operand.specs.Outcome.{refusedWith, valueOf}
 use Rattle.dispatch.specs.Meaning.{unaryMeaning, binaryMeaning}
-use Rattle.sheet.specs.Read.{must, thenRead}
 use Rattle.sheet.specs.Record.{readHead, readRecord}
-use Rattle.sheet.specs.Sheet.{readRecords, readSheet, checkedOf}
-use Rattle.fold.specs.Fresh.{entryAt, foldedOf, freshAnswer}
-use Rattle.fold.specs.Change.{isSetting, faultOf, changeAnswer}
+use Rattle.sheet.specs.Sheet.{readRecords, readFrom, readSheet, countedOf}
+use Rattle.entries.specs.Entries.{entryAt, isSetting}
+use Rattle.fold.specs.Fresh.{freshAnswer}
+use Rattle.fold.specs.Change.{faultOf, changeAnswer}
 use Rattle.booth.specs.Answer.{packedAnswer, packedFold}
 use Rattle.booth.specs.Operand.{operandIn, intoSlot, directAnswer, directBytes}
 
 -- not every sheet is refused, and the place of a sheet that is cut short is not lost
-pub check-answers : map (λ (s : List ℕ). packedFold (foldedOf (checkedOf (readSheet s)))) ([] ∷ (213 ∷ []) ∷ []) ≡ 0 ∷ packedAnswer 22 1 ∷ []
-unfolding must thenRead readHead readRecord readRecords readSheet
+pub check-answers : map (λ (s : List ℕ). packedFold (countedOf (readSheet s))) ([] ∷ (213 ∷ []) ∷ []) ≡ 0 ∷ packedAnswer 22 1 ∷ []
+unfolding must thenRead readAs readHead readRecord readRecords readFrom readSheet
 check-answers = refl
 
 -- results of another size than the sheet asks for are not taken
 pub fresh-answers : map (λ (l : List ℕ). packedFold (freshAnswer (readSheet []) l)) ([] ∷ (7 ∷ []) ∷ []) ≡ 0 ∷ packedAnswer 30 0 ∷ []
-unfolding must readRecords readSheet freshAnswer
+unfolding must readAs readRecords readFrom readSheet freshAnswer
 fresh-answers = refl
 
 -- an entry that is not there is not changed
 pub change-answer : packedFold (changeAnswer (readSheet []) [] 0 4 5) ≡ packedAnswer 31 0
-unfolding must readRecords readSheet entryAt isSetting faultOf changeAnswer
+unfolding must readAs readRecords readFrom readSheet entryAt isSetting faultOf changeAnswer
 change-answer = refl
 
 -- a slot of 135 or 137 bytes is not taken, whatever the operator answers: a value, or a refusal of its own

@@ -5,16 +5,16 @@ use mathlib.Core.Bool.{Bool, true, false, not, _&&_}
 use mathlib.Core.List.{List, _∷_}
 use native.Mathlib.Omega.{arith}
 use lib.Dec.{eqb, leb}
-use lib.ListN.{length, getD, take, drop, replicate, length-drop}
-use lib.Seq.{take-all}
+use lib.ListN.{length, getD, replicate, length-take, length-drop}
 use borrow.Author.Tests.{eq-eqb, ne-eqb, eqb-true, ltb-true, le-leb, not-true, not-false}
+use Rattle.low.specs.Bytes.{whole, part, numbers}
+use Rattle.low.proofs.Parts.{part-part, part-again}
+use Rattle.low.proofs.Eights.{numbers-one, numbers-part}
 use Rattle.types.specs.Types.{knownOf}
 use Rattle.value.specs.Pattern.{pick}
 use Rattle.operand.specs.declared.Instance.{Instance}
 use Rattle.operand.specs.Operand.{shapeOk, aScalar}
-use Rattle.operand.proofs.Tests.{both}
-use Rattle.fields.specs.Field.{eight, sixteen}
-use Rattle.fields.proofs.Sixteen.{sixteen-one}
+use Rattle.low.proofs.Tests.{both}
 use Rattle.booth.specs.Operand.{noOperand, operandIn, scalarIn}
 use Rattle.booth.specs.declared.direct.One.{One}
 use Rattle.booth.specs.declared.direct.One.the-variants as O
@@ -29,10 +29,10 @@ module _ (b : List ℕ) (t c r : ℕ) (et : t ≡ getD b 0 0) (ec : c ≡ getD b
     unfolding operandIn
     no-length n a f x e = rw (← et, ← ec, ← er, ← s, not-false q g, ← a, ne-eqb (length b) (3 + 8 * n) f) e
 
-    pub operand-there : (n : ℕ) → n ≡ c * r → length b ≡ 3 + 8 * n → (xs p : List ℕ) → xs ≡ sixteen p → p ≡ take 128 (drop 3 b)
+    pub operand-there : (n : ℕ) → n ≡ c * r → length b ≡ 3 + 8 * n → (xs p : List ℕ) → xs ≡ numbers 16 p 0 → p ≡ part b 3 128
         → _≡_ {A = Instance} (record { ty = t; cols = c; rows = r; comps = xs }) (operandIn b)
     unfolding operandIn
-    operand-there n a l xs p e z = rw (← et, ← ec, ← er, ← s, not-false q g, ← a, eq-eqb (length b) (3 + 8 * n) l, e, z)
+    operand-there n a l xs p e z = rw (← et, ← ec, ← er, ← s, not-false q g, ← a, eq-eqb (length b) (3 + 8 * n) l, e, z, numbers-part 16 b 3 128 0 (omega arith))
 
 -- ---- scalars
 -- the first three bytes are a known type, one column and one row
@@ -56,19 +56,21 @@ module _ (b : List ℕ) (l : length b ≡ 11) where
     other-head f = rw (eq-eqb (length b) 11 l, sym tested ∙ not-true _ f)
 
     -- any others are one
-    pub the-scalar : not (k && eqb (getD b 1 0) 1 && eqb (getD b 2 0) 1) ≡ false → (x : ℕ) (p : List ℕ) → x ≡ eight p → p ≡ take 8 (drop 3 b)
+    pub the-scalar : not (k && eqb (getD b 1 0) 1 && eqb (getD b 2 0) 1) ≡ false → (x : ℕ) (p : List ℕ) → x ≡ whole (part p 0 8) → p ≡ part b 3 8
         → O.Scalar (getD b 0 0) x ≡ scalarIn b
     unfolding scalarIn
-    the-scalar g x p e z = rw (eq-eqb (length b) 11 l, sym tested ∙ not-false _ g, e, z)
+    the-scalar g x p e z = rw (eq-eqb (length b) 11 l, sym tested ∙ not-false _ g, e, z, part-again b 3 8)
 
   -- the components in the bytes of a scalar are its pattern and fifteen zeros
-  one-component : sixteen (take 128 (drop 3 b)) ≡ eight (take 8 (drop 3 b)) ∷ replicate 15 0
+  one-component : numbers 16 b 3 ≡ whole (part b 3 8) ∷ replicate 15 0
+  unfolding part
   one-component =
-      let n : length (drop 3 b) ≤ 8 = omega (arith, length-drop 3 b) in
-      rw (take-all 128 (drop 3 b) (omega arith), take-all 8 (drop 3 b) n) (sym (sixteen-one (drop 3 b) n))
+      let n : length (part b 3 128) ≤ 8 = simp (length-take, length-drop) (omega arith) in
+      sym (numbers-part 16 b 3 128 0 (omega arith)) ∙ sym (numbers-one (part b 3 128) n)
+      ∙ ap (λ (s : List ℕ). whole s ∷ replicate 15 0) (part-part b 3 128 0 8 (omega arith))
 
   -- they are the operand of that type and pattern
-  operand-one : headed b ≡ true → operandIn b ≡ aScalar (getD b 0 0) (eight (take 8 (drop 3 b)))
+  operand-one : headed b ≡ true → operandIn b ≡ aScalar (getD b 0 0) (whole (part b 3 8))
   unfolding operandIn
   operand-one h =
       let k = both (knownOf (getD b 0 0) && eqb (getD b 1 0) 1) (eqb (getD b 2 0) 1) h in
@@ -83,7 +85,7 @@ scalar-operand : (b : List ℕ) (t x : ℕ) → scalarIn b ≡ O.Scalar t x → 
 unfolding scalarIn
 scalar-operand b t x h = go (eqb (length b) 11) (headed b) refl refl h
   where
-    go : (p q : Bool) → eqb (length b) 11 ≡ p → headed b ≡ q → pick p (pick q (O.Scalar (getD b 0 0) (eight (take 8 (drop 3 b)))) O.Other) O.Other ≡ O.Scalar t x
+    go : (p q : Bool) → eqb (length b) 11 ≡ p → headed b ≡ q → pick p (pick q (O.Scalar (getD b 0 0) (whole (part b 3 8))) O.Other) O.Other ≡ O.Scalar t x
         → operandIn b ≡ aScalar t x
     go true true l k e = operand-one b (eqb-true (length b) 11 l) k ∙ cc
     go true false l k e = absurd (let y : _≡_ {A = ℕ} 0 1 = cc in omega arith)

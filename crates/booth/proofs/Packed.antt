@@ -6,19 +6,20 @@ use mathlib.Core.List.{List}
 use native.Mathlib.Omega.{arith}
 use lib.Dec.{eqb}
 use lib.ListN.{length}
+use Rattle.low.specs.declared.Counted.{Counted}
+use Rattle.low.specs.declared.Counted.the-variants.{Done, Refused}
+use Rattle.low.specs.Read.{Read, found, refused, must}
 use Rattle.value.specs.Pattern.{pick}
 use Rattle.operand.specs.declared.Instance.{Instance}
 use Rattle.operand.specs.declared.Outcome.{Outcome}
 use Rattle.dispatch.specs.Meaning.{unaryMeaning, binaryMeaning}
 use Rattle.dispatch.proofs.Outcomes.{binary-outcomes, unary-outcomes}
-use Rattle.sheet.specs.Read.{Read, found, refused, must}
-use Rattle.sheet.specs.Tree.{Entry}
-use Rattle.sheet.specs.Sheet.{readSheet, checkedOf}
-use Rattle.fold.specs.declared.Folded.{Folded}
-use Rattle.fold.specs.declared.Folded.the-variants.{Done, Refused}
-use Rattle.fold.specs.Fresh.{refsOf, foldedOf, sized, freshAnswer}
-use Rattle.fold.specs.Change.{depends, tally, faultOf, changeAnswer}
-use Rattle.fold.proofs.Depend.{tally-small}
+use Rattle.sheet.specs.Sheet.{Sheet, readSheet, countedOf}
+use Rattle.entries.specs.Entries.{refsOf}
+use Rattle.entries.specs.Depend.{depends, tally}
+use Rattle.entries.proofs.Chains.{tally-small}
+use Rattle.fold.specs.Fresh.{sized, freshAnswer}
+use Rattle.fold.specs.Change.{faultOf, changeAnswer}
 use Rattle.booth.specs.Answer.{packedAnswer, packedFold, numberIn, detailIn}
 use Rattle.booth.specs.Operand.{intoSlot, directAnswer}
 use Rattle.booth.proofs.Bounds.{SheetWithin, sheet-within, fault-small, Small, outcome-small, into-small}
@@ -31,39 +32,39 @@ pub unpacked : (n d : ℕ) → n < 256 → d < 4294967296 → Says (packedAnswer
 unpacked n d h k = (omega (arith, h, k), omega (arith, h, k))
 
 -- ---- calls on a sheet
-abbrev pub Unpacks : Folded → Type 0
+abbrev pub Unpacks : Counted → Type 0
 Unpacks (Done n) = Says (packedFold (Done n)) 0 n
 Unpacks (Refused k p) = Says (packedFold (Refused k p)) k p
 
 done : (n : ℕ) → n < 4294967296 → Unpacks (Done n)
 done n h = unpacked 0 n (omega arith) h
 
-pub check-unpacked : (s : List ℕ) → Unpacks (foldedOf (checkedOf (readSheet s)))
+pub check-unpacked : (s : List ℕ) → Unpacks (countedOf (readSheet s))
 check-unpacked s = go (readSheet s) (sheet-within s)
   where
-    go : (q : Read (List Entry)) → SheetWithin 16384 q → Unpacks (foldedOf (checkedOf q))
-    go (found es n) h = done (length es) (omega (arith, h))
+    go : (q : Read Sheet) → SheetWithin 16384 q → Unpacks (countedOf q)
+    go (found sh n) h = done (length (sh .entries)) (omega (arith, h))
     go (refused k p) h = unpacked k p (omega (arith, h .0)) (omega (arith, h .1))
 
-fresh-small : (l : List ℕ) (q : Read (List Entry)) → SheetWithin 16384 q → Unpacks (freshAnswer q l)
+fresh-small : (l : List ℕ) (q : Read Sheet) → SheetWithin 16384 q → Unpacks (freshAnswer q l)
 unfolding freshAnswer must
-fresh-small l (found es n) h = go (sized es (length l))
+fresh-small l (found sh n) h = go (sized sh (length l))
   where
-    go : (t : Bool) → Unpacks (must t (Refused 30 0) (Done (length es)))
-    go true = done (length es) (omega (arith, h))
+    go : (t : Bool) → Unpacks (must t (Refused 30 0) (Done (length (sh .entries))))
+    go true = done (length (sh .entries)) (omega (arith, h))
     go false = unpacked 30 0 (omega arith) (omega arith)
 fresh-small l (refused k p) h = unpacked k p (omega (arith, h .0)) (omega (arith, h .1))
 
 pub fresh-unpacked : (s l : List ℕ) → Unpacks (freshAnswer (readSheet s) l)
 fresh-unpacked s l = fresh-small l (readSheet s) (sheet-within s)
 
-change-small : (l : List ℕ) (i ty bits : ℕ) (q : Read (List Entry)) → SheetWithin 16384 q → Unpacks (changeAnswer q l i ty bits)
+change-small : (l : List ℕ) (i ty bits : ℕ) (q : Read Sheet) → SheetWithin 16384 q → Unpacks (changeAnswer q l i ty bits)
 unfolding changeAnswer
-change-small l i ty bits (found es n) h = go (eqb (faultOf es (length l) i ty bits) 0)
+change-small l i ty bits (found sh n) h = go (eqb (faultOf sh (length l) i ty bits) 0)
   where
-    go : (t : Bool) → Unpacks (pick t (Done (tally (depends (refsOf es) i) (length es))) (Refused (faultOf es (length l) i ty bits) 0))
-    go true = done (tally (depends (refsOf es) i) (length es)) (omega (arith, h, tally-small (depends (refsOf es) i) (length es)))
-    go false = unpacked (faultOf es (length l) i ty bits) 0 (omega (arith, fault-small es (length l) i ty bits)) (omega arith)
+    go : (t : Bool) → Unpacks (pick t (Done (tally (depends (refsOf sh) i) (length (sh .entries)))) (Refused (faultOf sh (length l) i ty bits) 0))
+    go true = done (tally (depends (refsOf sh) i) (length (sh .entries))) (omega (arith, h, tally-small (depends (refsOf sh) i) (length (sh .entries))))
+    go false = unpacked (faultOf sh (length l) i ty bits) 0 (omega (arith, fault-small sh (length l) i ty bits)) (omega arith)
 change-small l i ty bits (refused k p) h = unpacked k p (omega (arith, h .0)) (omega (arith, h .1))
 
 pub change-unpacked : (s l : List ℕ) (i ty bits : ℕ) → Unpacks (changeAnswer (readSheet s) l i ty bits)

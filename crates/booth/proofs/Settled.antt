@@ -17,7 +17,7 @@ use Rattle.pairing.specs.Pairing.{opKnown, unaryKnown, stageKnown}
 use Rattle.dispatch.specs.Meaning.{refuseUnless, judged, unaryJudged, unaryMeaning, binaryMeaning}
 use Rattle.dispatch.proofs.Outcomes.{binary-answers, unary-answers}
 use Rattle.slot.specs.Slot.{bytesOf, put}
-use Rattle.slot.proofs.Parts.{patch-all}
+use Rattle.low.proofs.Parts.{patch-all}
 use Rattle.slot.proofs.Slots.{bytes-long, put-in}
 use Rattle.booth.specs.Answer.{packedAnswer}
 use Rattle.booth.specs.Operand.{callRefused, intoSlot, directAnswer, directBytes}

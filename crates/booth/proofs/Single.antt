@@ -3,7 +3,7 @@ use mathlib.Core.Path.{_≡_, sym, _∙_}
 use contract.Lifetimes.{Lfts}
 use denote.Triple.Clauses.{AtExit}
 use borrow.Fn.Kinds.{Dens, resT, endedOf}
-use Rattle.slot.proofs.Single.{OneAnswer}
+use Rattle.integer.proofs.Single.{OneResult}
 use Rattle.booth.proofs.sheet_check.Kinds as sheet-check-kinds
 use Rattle.booth.proofs.sheet_check.Reads as sheet-check-reads
 use Rattle.booth.proofs.wgsl_unary.Kinds as wgsl-unary-kinds
@@ -15,7 +15,7 @@ use Rattle.booth.proofs.sheet_fresh.Reads as sheet-fresh-reads
 use Rattle.booth.proofs.sheet_change.Kinds as sheet-change-kinds
 use Rattle.booth.proofs.sheet_change.Reads as sheet-change-reads
 
-pub sheet-check-one : OneAnswer 1 sheet-check-kinds.ps sheet-check-kinds.r sheet-check-reads.Post
+pub sheet-check-one : OneResult 1 sheet-check-kinds.ps sheet-check-kinds.r sheet-check-reads.Post
 sheet-check-one κs a x y s t p q = p ∙ sym q
 
 pub wgsl-unary-one : (κs : Lfts 2) (a : Dens κs wgsl-unary-kinds.ps) (x y : resT wgsl-unary-kinds.r κs .Denot) (s t : AtExit (endedOf 2 wgsl-unary-kinds.ps wgsl-unary-kinds.r) κs)

@@ -1,7 +1,7 @@
 -- What an exported function answers.
 use Prim.Native.Nat.{ℕ, _+_, _*_, _/_, _%_}
-use Rattle.fold.specs.declared.Folded.{Folded}
-use Rattle.fold.specs.declared.Folded.the-variants.{Done, Refused}
+use Rattle.low.specs.declared.Counted.{Counted}
+use Rattle.low.specs.declared.Counted.the-variants.{Done, Refused}
 
 -- the number in bits 32 to 39, the detail in bits 0 to 31
 abbrev pub packedAnswer : ℕ → ℕ → ℕ
@@ -15,6 +15,6 @@ abbrev pub detailIn : ℕ → ℕ
 detailIn answer = answer % 4294967296
 
 -- success has the number 0
-abbrev pub packedFold : Folded → ℕ
+abbrev pub packedFold : Counted → ℕ
 packedFold (Done n) = packedAnswer 0 n
 packedFold (Refused number place) = packedAnswer number place

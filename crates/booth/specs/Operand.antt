@@ -3,7 +3,8 @@ use Prim.Native.Nat.{ℕ, _+_, _*_}
 use mathlib.Core.Bool.{Bool, _&&_, _||_}
 use mathlib.Core.List.{List}
 use lib.Dec.{eqb}
-use lib.ListN.{length, getD, take, drop, replicate}
+use lib.ListN.{length, getD, replicate}
+use Rattle.low.specs.Bytes.{whole, part, numbers}
 use Rattle.types.specs.Types.{knownOf}
 use Rattle.value.specs.Pattern.{pick}
 use Rattle.value.specs.Refusals as No
@@ -12,7 +13,6 @@ use Rattle.operand.specs.declared.Outcome.{Outcome}
 use Rattle.operand.specs.Operand.{shapeOk}
 use Rattle.dispatch.specs.Meaning.{refuseUnless}
 use Rattle.slot.specs.Slot.{bytesOf}
-use Rattle.fields.specs.Field.{eight, sixteen}
 use Rattle.booth.specs.Answer.{packedAnswer}
 use Rattle.booth.specs.declared.direct.One.{One}
 use Rattle.booth.specs.declared.direct.One.the-variants as O
@@ -26,7 +26,7 @@ unfoldable pub operandIn : List ℕ → Instance
 operandIn b =
     pick (shapeOk (getD b 0 0) (getD b 1 0) (getD b 2 0))
     (pick (eqb (length b) (3 + 8 * (getD b 1 0 * getD b 2 0)))
-    (record { ty = getD b 0 0; cols = getD b 1 0; rows = getD b 2 0; comps = sixteen (take 128 (drop 3 b)) })
+    (record { ty = getD b 0 0; cols = getD b 1 0; rows = getD b 2 0; comps = numbers 16 b 3 })
     noOperand)
     noOperand
 
@@ -53,6 +53,6 @@ unfoldable pub scalarIn : List ℕ → One
 scalarIn b =
     pick (eqb (length b) 11)
     (pick (knownOf (getD b 0 0) && eqb (getD b 1 0) 1 && eqb (getD b 2 0) 1)
-    (O.Scalar (getD b 0 0) (eight (take 8 (drop 3 b))))
+    (O.Scalar (getD b 0 0) (whole (part b 3 8)))
     O.Other)
     O.Other

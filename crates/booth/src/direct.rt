@@ -37,16 +37,16 @@ fn no_operand() -> Instance
 pub(crate) fn operand(b: &[u8]) -> Instance
     ensures { λ r. ⌜ r ≡ operandIn (now (b .entry)) ⌝ }
 {
-    let ty = fields::byte(b, 0);
-    let cols = fields::byte(b, 1);
-    let rows = fields::byte(b, 2);
+    let ty = low::byte(b, 0);
+    let cols = low::byte(b, 1);
+    let rows = low::byte(b, 2);
     if !operand::shape_ok(ty, cols, rows) {
         return no_operand();
     }
     if b.len() != 3 + 8 * area(cols, rows) {
         return no_operand();
     }
-    let comps = fields::numbers(fields::part(b, 3, 128));
+    let comps = low::numbers(low::part(b, 3, 128));
     Instance {
         ty,
         cols,
@@ -65,7 +65,7 @@ pub(crate) fn one_in(b: &[u8]) -> One
     if !(types::known(b[0]) & (b[1] == 1) & (b[2] == 1)) {
         return One::Other;
     }
-    One::Scalar(b[0], fields::number(fields::part(b, 3, 8)))
+    One::Scalar(b[0], low::number(low::part(b, 3, 8)))
 }
 
 // Whether the call itself is refused: its operator, its stage or an operand.

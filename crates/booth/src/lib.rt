@@ -3,12 +3,11 @@
 mod direct;
 
 use direct::One;
-use fold::Folded;
+use low::Counted;
 ghost use mathlib.Core.Path.{_≡_};
-ghost use lib.ListN.{length};
 ghost use Rattle.dispatch.specs.Meaning.{unaryMeaning, binaryMeaning};
-ghost use Rattle.sheet.specs.Sheet.{readSheet, checkedOf};
-ghost use Rattle.fold.specs.Fresh.{foldedOf, freshAnswer, freshBytes};
+ghost use Rattle.sheet.specs.Sheet.{readSheet, countedOf};
+ghost use Rattle.fold.specs.Fresh.{freshAnswer, freshBytes};
 ghost use Rattle.fold.specs.Change.{changeAnswer, changeBytes};
 ghost use Rattle.booth.specs.Answer.{packedAnswer, packedFold};
 ghost use Rattle.booth.specs.Operand.{operandIn, directAnswer, directBytes};
@@ -21,12 +20,12 @@ fn pack(number: u8, detail: u64) -> u64
 }
 
 // The answer of a call on a sheet in one number.
-fn pack_fold(answer: Folded) -> u64
+fn pack_fold(answer: Counted) -> u64
     ensures { λ r. ⌜ r ≡ packedFold answer ⌝ }
 {
     match answer {
-        Folded::Done(n) => pack(0, n as u64),
-        Folded::Refused(number, place) => pack(number, place as u64),
+        Counted::Done(n) => pack(0, n as u64),
+        Counted::Refused(number, place) => pack(number, place as u64),
     }
 }
 
@@ -61,7 +60,7 @@ pub extern "C" fn wgsl_binary(op: u8, stage: u8, left: &[u8], right: &[u8], slot
 // Checks a sheet. The detail is the number of entries.
 #[no_mangle]
 pub extern "C" fn sheet_check(sheet: &[u8]) -> u64
-    ensures { λ r. ⌜ r ≡ packedFold (foldedOf (checkedOf (readSheet (now (sheet .entry))))) ⌝ }
+    ensures { λ r. ⌜ r ≡ packedFold (countedOf (readSheet (now (sheet .entry)))) ⌝ }
 {
     let checked = fold::check(sheet);
     pack_fold(checked)

@@ -8,6 +8,7 @@ use lib.ListN.{getD}
 use types.Run.{OneOf, miss}
 use denote.Enum.Declared.{tagOf}
 use borrow.Author.Tests.{eq-eqb, ne-eqb, eqb-true, eqb-false}
+use Rattle.low.specs.Bytes.{whole, part}
 use Rattle.types.proofs.Choice.{Misses, past-one}
 use Rattle.value.specs.declared.Scalar.{Scalar}
 use Rattle.value.specs.declared.ShaderStage.{ShaderStage}
@@ -19,10 +20,9 @@ use Rattle.value.specs.Scalar.{scalarOf}
 use Rattle.value.proofs.Answer.{the-type}
 use Rattle.conversion.specs.Convert.{commonOf}
 use Rattle.bitwise.specs.Bits.{bitNotOf, bitXorOf}
-use Rattle.fields.specs.Field.{eight}
-use Rattle.cases.specs.Record.{part}
 use Rattle.cases.specs.Scalars.{unaryResults, unaryBy, binaryResults, binaryBy, scalarFound, scalarRead, valueSaid}
 use Rattle.cases.specs.Judged.{resultSaid, scalarRight}
+use Rattle.cases.proofs.Records.{number-at}
 
 -- ---- codes
 -- every other code of a unary operator is taken as 3
@@ -41,9 +41,9 @@ other-binary stage l r op m h k = go (eqb op 16) refl
 
 -- ---- operands and values
 -- the scalar that an operand is found to be
-pub scalar-found : (o p : List ℕ) (t b : ℕ) (f : Found) → t ≡ getD o 0 0 → p ≡ part o 4 8 → b ≡ eight p → f ≡ scalarOf t b → scalarFound f ≡ scalarRead o
+pub scalar-found : (o p : List ℕ) (t b : ℕ) (f : Found) → t ≡ getD o 0 0 → p ≡ part o 4 8 → b ≡ whole (part p 0 8) → f ≡ scalarOf t b → scalarFound f ≡ scalarRead o
 unfolding scalarRead
-scalar-found o p t b f et ep eb ef = ap scalarFound (ef ∙ (λ i. scalarOf (et i) ((eb ∙ ap (λ (l : List ℕ). eight l) ep) i)))
+scalar-found o p t b f et ep eb ef = ap scalarFound (ef ∙ (λ i. scalarOf (et i) (number-at o 4 p b ep eb i)))
 
 -- of an answer that is no value, no value is said
 pub no-value : (a : Answer) (rest : List ℕ) → OneOf (1 ∷ 2 ∷ 3 ∷ 4 ∷ 5 ∷ 6 ∷ 7 ∷ 8 ∷ 9 ∷ []) (tagOf the-type a) → true ≡ valueSaid (answerOf a) rest

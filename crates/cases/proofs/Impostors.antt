@@ -6,16 +6,16 @@ use Prim.Native.Nat.{ℕ}
 use lib.ListN.{replicate}
 use Rattle.rounding.specs.Bits.{ofFields, ofBits, toBits}
 use Rattle.dispatch.specs.Meaning.{unaryMeaning, binaryMeaning}
-use Rattle.slot.specs.Bytes.{lows, whole, part}
-use Rattle.slot.specs.Slot.{eights, numbers, bytesOf, saidBy, slot, each, componentFormed, componentsFormed, valueFormed, blank, formed, wellFormed}
+use Rattle.low.specs.Bytes.{lows, whole, part, eights, numbers}
+use Rattle.slot.specs.Slot.{bytesOf, saidBy, slot, each, componentFormed, componentsFormed, valueFormed, blank, formed, wellFormed}
 use Rattle.booth.specs.Operand.{intoSlot, directAnswer, directBytes}
-use Rattle.fields.specs.Field.{nth, tab, sixteen}
 use Rattle.cases.specs.Record.{componentsIn, instanceIn, secondPlace, answerIn, outcomeIn, askedBy}
 use Rattle.cases.specs.Scalars.{unaryBy, scalarRead}
 use Rattle.cases.specs.Judged.{answeredSo, slotRight, conversionOf, roundingRight, same, shapeRight, resultSaid, scalarRight, operatorRight}
 
 -- number and detail are both asked: ShlOverflow by 32 is not one by 0, nor ShrOverflow by 32
 pub answers-answers : map (answeredSo 38654705696) ((9 ∷ 32 ∷ []) ∷ (9 ∷ []) ∷ (10 ∷ 32 ∷ []) ∷ []) ≡ true ∷ false ∷ false ∷ []
+unfolding whole part
 answers-answers = refl
 
 -- a slot that is not well formed is not right because it is refused: the record has to say so
@@ -35,7 +35,7 @@ pub roundings-answers : map roundingRight (
     ∷ (13 ∷ replicate 23 0)
     ∷ [])
     ≡ true ∷ false ∷ false ∷ false ∷ []
-unfolding ofFields ofBits toBits conversionOf roundingRight
+unfolding whole part ofFields ofBits toBits conversionOf roundingRight
 roundings-answers = refl
 
 -- records of an operator that is not known: its refusal is 25, and stands after one operand or after two
@@ -44,11 +44,11 @@ unknown status = (1 ∷ 4 ∷ 0 ∷ replicate 4 0 ++ status ∷ []) ∷ (2 ∷ 1
 
 -- the refusal is not looked for at one place for both, nor is any other taken for it
 pub shapes-answers : map shapeRight (unknown 25 ++ unknown 26) ≡ true ∷ true ∷ false ∷ false ∷ false ∷ false ∷ []
-unfolding lows eights bytesOf nth tab sixteen unaryMeaning binaryMeaning componentsIn instanceIn secondPlace answerIn outcomeIn askedBy same shapeRight
+unfolding lows whole part eights numbers bytesOf unaryMeaning binaryMeaning componentsIn instanceIn secondPlace answerIn outcomeIn askedBy same shapeRight
 shapes-answers = refl
 
 pub operators-answers : map operatorRight (unknown 25 ++ unknown 26) ≡ true ∷ true ∷ false ∷ false ∷ false ∷ false ∷ []
-unfolding nth tab sixteen unaryMeaning binaryMeaning intoSlot directAnswer directBytes componentsIn instanceIn secondPlace answerIn outcomeIn askedBy same operatorRight
+unfolding whole part numbers unaryMeaning binaryMeaning intoSlot directAnswer directBytes componentsIn instanceIn secondPlace answerIn outcomeIn askedBy same operatorRight
 operators-answers = refl
 
 -- `!` of a Bool, and what is said of it: status, type and pattern
@@ -57,5 +57,5 @@ negated status ty bits = 1 ∷ 1 ∷ 0 ∷ (0 ∷ 1 ∷ 1 ∷ 1 ∷ low 1 0 0 0)
 
 -- neither a refusal nor another type nor another pattern is taken for the value
 pub scalars-answers : map scalarRight (negated 0 0 0 ∷ negated 1 0 0 ∷ negated 0 3 0 ∷ negated 0 0 1 ∷ []) ≡ true ∷ false ∷ false ∷ false ∷ []
-unfolding unaryBy scalarRead resultSaid scalarRight
+unfolding whole part unaryBy scalarRead resultSaid scalarRight
 scalars-answers = refl

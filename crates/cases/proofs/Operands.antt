@@ -11,6 +11,8 @@ use lib.ListN.{length, getD, take, drop, replicate, length-append, length-take}
 use lib.Seq.{take-all, take-length, length-take-le}
 use borrow.Author.Tests.{ne-eqb, lt-ltb, le-ltb, not-true, not-false}
 use Rattle.integer.proofs.Order.{le-or-lt}
+use Rattle.low.specs.Bytes.{part}
+use Rattle.low.proofs.Parts.{zeros-of}
 use Rattle.value.specs.Pattern.{pick}
 use Rattle.slot.specs.Slot.{bytesOf}
 use Rattle.booth.specs.Operand.{operandIn, callRefused, intoSlot, directAnswer, directBytes}
@@ -18,22 +20,16 @@ use Rattle.cases.specs.Record.{filled, componentsIn, laidOut, areaIn, us
 use Rattle.cases.specs.Judged.{answeredSo, same, untouched, operatorRight}
 
 -- ---- zeros
--- n zeros of m or more
-zeros-of : (n m : ℕ) → n ≤ m → replicate {A = ℕ} n 0 ≡ take n (replicate m 0)
-zeros-of zero m h = refl
-zeros-of (suc n) zero h = absurd (omega arith)
-zeros-of (suc n) (suc m) h = ap (λ (l : List ℕ). 0 ∷ l) (zeros-of n m (omega arith))
-
 -- a string over n zeros, cut to fit, is the first n of its bytes with zeros after them
 over-zeros : (n m : ℕ) (s : List ℕ) → n ≤ m → take n s ++ drop (length (take n s)) (replicate n 0) ≡ take n (s ++ replicate m 0)
 over-zeros zero m s h = refl
-over-zeros (suc n) m [] h = zeros-of (suc n) m h
+over-zeros (suc n) m [] h = sym (zeros-of (suc n) m h)
 over-zeros (suc n) m (x ∷ s) h = ap (λ (l : List ℕ). x ∷ l) (over-zeros n m s (omega arith))
 
 -- ---- what C is handed
-pub laid : (o s p l : List ℕ) (a b d : ℕ) → a ≡ getD o 0 0 → b ≡ getD o 1 0 → d ≡ getD o 2 0 → s ≡ componentsIn o → p ≡ take 128 s
+pub laid : (o s p l : List ℕ) (a b d : ℕ) → a ≡ getD o 0 0 → b ≡ getD o 1 0 → d ≡ getD o 2 0 → s ≡ componentsIn o → p ≡ part s 0 128
     → l ≡ take (length p) p ++ drop (length p) (replicate 128 0) → (a ∷ b ∷ d ∷ (l ++ [])) ≡ laidOut o
-unfolding laidOut
+unfolding laidOut part
 laid o s p l a b d ea eb ed es ep el =
     let e : l ≡ filled 128 (componentsIn o) =
     el ∙ ap (λ (x : List ℕ). x ++ drop (length p) (replicate 128 0)) (take-length p)
@@ -42,7 +38,8 @@ laid o s p l a b d ea eb ed es ep el =
     rw (append-nil l, ← ea, ← eb, ← ed, e)
 
 -- what is cut to 128 bytes fits into them
-pub fits : (s p : List ℕ) → p ≡ take 128 s → length p ≤ 128
+pub fits : (s p : List ℕ) → p ≡ part s 0 128 → length p ≤ 128
+unfolding part
 fits s p e = rw e (simp length-take (omega arith))
 
 laid-long : (o : List ℕ) → length (laidOut o) ≡ 131

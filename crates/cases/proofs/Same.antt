@@ -6,7 +6,7 @@ use mathlib.Core.List.{List, [], _∷_}
 use lib.Dec.{eqb}
 use native.Mathlib.Omega.{arith}
 use borrow.Author.Tests.{eq-eqb, eqb-true}
-use Rattle.types.proofs.Choice.{both}
+use Rattle.low.proofs.Tests.{both}
 use Rattle.cases.specs.Judged.{same}
 
 -- a string is the same as itself

@@ -1,6 +1,6 @@
 -- Each public contract leaves one outcome for each call. Assumes nothing.
 use mathlib.Core.Path.{sym, _∙_}
-use Rattle.slot.proofs.Single.{OneAnswer}
+use Rattle.integer.proofs.Single.{OneResult}
 use Rattle.cases.proofs.answers.Kinds as answers-kinds
 use Rattle.cases.proofs.answers.Reads as answers-reads
 use Rattle.cases.proofs.slots.is_right.Kinds as slots-kinds
@@ -14,20 +14,20 @@ use Rattle.cases.proofs.scalars.is_right.Reads as scalars-reads
 use Rattle.cases.proofs.operators.is_right.Kinds as operators-kinds
 use Rattle.cases.proofs.operators.is_right.Reads as operators-reads
 
-pub answers-one : OneAnswer 1 answers-kinds.ps answers-kinds.r answers-reads.Post
+pub answers-one : OneResult 1 answers-kinds.ps answers-kinds.r answers-reads.Post
 answers-one κs a x y s t p q = p ∙ sym q
 
-pub slots-one : OneAnswer 1 slots-kinds.ps slots-kinds.r slots-reads.Post
+pub slots-one : OneResult 1 slots-kinds.ps slots-kinds.r slots-reads.Post
 slots-one κs a x y s t p q = p ∙ sym q
 
-pub roundings-one : OneAnswer 1 roundings-kinds.ps roundings-kinds.r roundings-reads.Post
+pub roundings-one : OneResult 1 roundings-kinds.ps roundings-kinds.r roundings-reads.Post
 roundings-one κs a x y s t p q = p ∙ sym q
 
-pub shapes-one : OneAnswer 1 shapes-kinds.ps shapes-kinds.r shapes-reads.Post
+pub shapes-one : OneResult 1 shapes-kinds.ps shapes-kinds.r shapes-reads.Post
 shapes-one κs a x y s t p q = p ∙ sym q
 
-pub scalars-one : OneAnswer 1 scalars-kinds.ps scalars-kinds.r scalars-reads.Post
+pub scalars-one : OneResult 1 scalars-kinds.ps scalars-kinds.r scalars-reads.Post
 scalars-one κs a x y s t p q = p ∙ sym q
 
-pub operators-one : OneAnswer 1 operators-kinds.ps operators-kinds.r operators-reads.Post
+pub operators-one : OneResult 1 operators-kinds.ps operators-kinds.r operators-reads.Post
 operators-one κs a x y s t p q = p ∙ sym q

@@ -6,6 +6,8 @@ use lib.Dec.{eqb, leb}
 use lib.ListN.{getD, replicate}
 use mir.Syntax.{w64}
 use mir.Val.{toZ}
+use Rattle.low.specs.Bytes.{part}
+use Rattle.types.specs.Edition.{plain}
 use Rattle.value.specs.Answer.{Result, stageOf}
 use Rattle.value.specs.Pattern.{pick}
 use Rattle.rounding.specs.Kind.{half, single, double, convert, ofInteger}
@@ -13,7 +15,7 @@ use Rattle.rounding.specs.Bits.{toBits, ofBits, finite}
 use Rattle.slot.specs.Slot.{slot, bytesOf, wellFormed}
 use Rattle.booth.specs.Operand.{directAnswer, directBytes}
 use Rattle.cases.specs.Scalars.{unaryBy, binaryBy, scalarRead, packedResult, valueSaid}
-use Rattle.cases.specs.Record.{part, numberAt, answerSaid, instanceIn, operandOfC, answerIn, outcomeIn, askedBy}
+use Rattle.cases.specs.Record.{numberAt, answerSaid, instanceIn, operandOfC, answerIn, outcomeIn, askedBy}
 
 -- a packed answer is what a record says
 abbrev pub answeredSo : ℕ → List ℕ → Bool
@@ -21,7 +23,7 @@ answeredSo answer said = eqb answer (answerSaid said)
 
 -- slots: 136 bytes, and 1 where they are well formed
 unfoldable pub slotRight : List ℕ → Bool
-slotRight c = Bool·beq (wellFormed (slot c 0)) (eqb (getD c 136 0) 1)
+slotRight c = Bool·beq (wellFormed plain (slot c 0)) (eqb (getD c 136 0) 1)
 
 -- what the codes 1 to 12 ask of eight bytes: a number in another format, the bits under which one is kept, or whether it is finite
 abbrev pub conversions : ℕ → List ℕ

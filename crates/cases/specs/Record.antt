@@ -2,26 +2,22 @@
 use Prim.Native.Nat.{ℕ, _+_, _*_}
 use mathlib.Core.List.{List, _∷_, _++_}
 use lib.Dec.{eqb, ltb}
-use lib.ListN.{getD, take, drop, replicate}
+use lib.ListN.{getD, take, replicate}
+use Rattle.low.specs.Bytes.{whole, part, numbers}
 use Rattle.value.specs.Pattern.{pick}
 use Rattle.operand.specs.declared.Instance.{Instance}
 use Rattle.operand.specs.declared.Outcome.{Outcome}
 use Rattle.dispatch.specs.Meaning.{unaryMeaning, binaryMeaning}
-use Rattle.fields.specs.Field.{four, eight, sixteen}
 use Rattle.booth.specs.Answer.{packedAnswer}
 use Rattle.booth.specs.Operand.{operandIn}
 
--- the n bytes at a place, or those of them that are there
-abbrev pub part : List ℕ → ℕ → ℕ → List ℕ
-part s a n = take n (drop a s)
-
 -- the number in the eight bytes at a place
 abbrev pub numberAt : List ℕ → ℕ → ℕ
-numberAt s a = eight (part s a 8)
+numberAt s a = whole (part s a 8)
 
 -- what a record says is answered: a number in one byte and its detail in the four after it, packed as C has them
 abbrev pub answerSaid : List ℕ → ℕ
-answerSaid s = packedAnswer (getD s 0 0) (four (part s 1 4) 0)
+answerSaid s = packedAnswer (getD s 0 0) (whole (part s 1 4))
 
 -- ---- a record of an operator: kind (1 unary, 2 binary), operator, stage, one or two operands, then status, detail and value
 -- an operand: type, columns, rows, how many components follow, and those, of eight bytes each
@@ -30,7 +26,7 @@ componentsIn o = part o 4 (8 * getD o 3 0)
 
 -- the operand itself, with zeros after the components that it was given
 unfoldable pub instanceIn : List ℕ → Instance
-instanceIn o = record { ty = getD o 0 0; cols = getD o 1 0; rows = getD o 2 0; comps = sixteen (componentsIn o) }
+instanceIn o = record { ty = getD o 0 0; cols = getD o 1 0; rows = getD o 2 0; comps = numbers 16 (componentsIn o) 0 }
 
 -- the first n bytes of a string that zeros follow
 abbrev pub filled : ℕ → List ℕ → List ℕ
@@ -67,7 +63,7 @@ answerIn c = pick (eqb (getD c 0 0) 1) (part c (secondPlace c) 137) (part c (sec
 
 -- its status, detail and value, which is written as an operand is
 unfoldable pub outcomeIn : List ℕ → Outcome
-outcomeIn a = record { status = getD a 0 0; detail = four (part a 1 4) 0; value = instanceIn (part a 5 132) }
+outcomeIn a = record { status = getD a 0 0; detail = whole (part a 1 4); value = instanceIn (part a 5 132) }
 
 -- what the operator gives on the operands, as they are read from their bytes
 unfoldable pub askedBy : (List ℕ → Instance) → List ℕ → Outcome

@@ -13,6 +13,6 @@ ghost use Rattle.cases.specs.Judged.{answeredSo};
 pub fn answers(answer: u64, said: &[u8]) -> bool
     ensures { λ r. ⌜ r ≡ answeredSo answer (now (said .entry)) ⌝ }
 {
-    let number = fields::byte(said, 0) as u64;
-    answer == number * 0x1_0000_0000 + fields::word(said, 1) as u64
+    let number = low::byte(said, 0) as u64;
+    answer == number * 0x1_0000_0000 + low::word(said, 1) as u64
 }

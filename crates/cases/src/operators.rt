@@ -12,11 +12,11 @@ fn laid_out(operand: &[u8]) -> [u8; 131]
     ensures { λ r. ⌜ r ≡ laidOut (now (operand .entry)) ⌝ }
 {
     let mut out = [0u8; 131];
-    out[0] = fields::byte(operand, 0);
-    out[1] = fields::byte(operand, 1);
-    out[2] = fields::byte(operand, 2);
+    out[0] = low::byte(operand, 0);
+    out[1] = low::byte(operand, 1);
+    out[2] = low::byte(operand, 2);
     bytes::copy(
-        fields::part(record::components(operand), 0, 128),
+        low::part(record::components(operand), 0, 128),
         &mut out[3..131],
     );
     out
@@ -26,7 +26,7 @@ fn laid_out(operand: &[u8]) -> [u8; 131]
 fn used(operand: &[u8]) -> usize
     ensures { λ r. ⌜ (r ≤ 131) × (r ≡ usedIn (now (operand .entry))) ⌝ }
 {
-    let area = (fields::byte(operand, 1) as usize) * (fields::byte(operand, 2) as usize);
+    let area = (low::byte(operand, 1) as usize) * (low::byte(operand, 2) as usize);
     if area < 16 { 3 + 8 * area } else { 131 }
 }
 
@@ -35,15 +35,15 @@ fn asked(case: &[u8], slot: &mut [u8]) -> u64
     ensures { λ r. ⌜ (r ≡ directAnswer (now (slot .entry)) (askedBy operandOfC (now (case .entry))))
         × (now (slot .exit) ≡ directBytes (now (slot .entry)) (askedBy operandOfC (now (case .entry)))) ⌝ }
 {
-    let op = fields::byte(case, 1);
-    let stage = fields::byte(case, 2);
-    let first = fields::part(case, 3, 132);
+    let op = low::byte(case, 1);
+    let stage = low::byte(case, 2);
+    let first = low::part(case, 3, 132);
     let left = laid_out(first);
     let m = used(first);
-    if fields::byte(case, 0) == 1 {
+    if low::byte(case, 0) == 1 {
         return booth::wgsl_unary(op, stage, &left[0..m], slot);
     }
-    let second = fields::part(case, record::second(case), 132);
+    let second = low::part(case, record::second(case), 132);
     let right = laid_out(second);
     let n = used(second);
     booth::wgsl_binary(op, stage, &left[0..m], &right[0..n], slot)
@@ -60,7 +60,7 @@ pub fn is_right(case: &[u8]) -> bool
     if !answers(answer, said) {
         return false;
     }
-    if fields::byte(said, 0) == 0 {
+    if low::byte(said, 0) == 0 {
         return record::holds(&slot, said);
     }
     record::same(&slot, &before)

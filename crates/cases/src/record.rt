@@ -12,25 +12,25 @@ ghost use Rattle.cases.specs.Judged.{same};
 pub(crate) fn second(case: &[u8]) -> usize
     ensures { λ r. ⌜ (r ≡ secondPlace (now (case .entry))) × (r ≤ 2047) ⌝ }
 {
-    7 + 8 * fields::byte(case, 6) as usize
+    7 + 8 * low::byte(case, 6) as usize
 }
 
 // An operand's components, as bytes.
 pub(crate) fn components(operand: &[u8]) -> &[u8]
     ensures { λ r. ⌜ now r ≡ componentsIn (now (operand .entry)) ⌝ }
 {
-    fields::part(operand, 4, 8 * fields::byte(operand, 3) as usize)
+    low::part(operand, 4, 8 * low::byte(operand, 3) as usize)
 }
 
 // An operand, with zeros after the components that it was given.
 pub(crate) fn instance(operand: &[u8]) -> Instance
     ensures { λ r. ⌜ r ≡ instanceIn (now (operand .entry)) ⌝ }
 {
-    let comps = fields::numbers(components(operand));
+    let comps = low::numbers(components(operand));
     Instance {
-        ty: fields::byte(operand, 0),
-        cols: fields::byte(operand, 1),
-        rows: fields::byte(operand, 2),
+        ty: low::byte(operand, 0),
+        cols: low::byte(operand, 1),
+        rows: low::byte(operand, 2),
         comps,
     }
 }
@@ -40,20 +40,20 @@ pub(crate) fn answer(case: &[u8]) -> &[u8]
     ensures { λ r. ⌜ now r ≡ answerIn (now (case .entry)) ⌝ }
 {
     let at = second(case);
-    if fields::byte(case, 0) == 1 {
-        return fields::part(case, at, 137);
+    if low::byte(case, 0) == 1 {
+        return low::part(case, at, 137);
     }
-    fields::part(case, at + 4 + 8 * fields::byte(case, at + 3) as usize, 137)
+    low::part(case, at + 4 + 8 * low::byte(case, at + 3) as usize, 137)
 }
 
 // The outcome that an answer says.
 fn outcome(answer: &[u8]) -> Outcome
     ensures { λ r. ⌜ r ≡ outcomeIn (now (answer .entry)) ⌝ }
 {
-    let detail = fields::word(answer, 1);
-    let value = instance(fields::part(answer, 5, 132));
+    let detail = low::word(answer, 1);
+    let value = instance(low::part(answer, 5, 132));
     Outcome {
-        status: fields::byte(answer, 0),
+        status: low::byte(answer, 0),
         detail,
         value,
     }

@@ -31,7 +31,7 @@ fn answer(what: u8, x: u64) -> u64
 pub fn is_right(case: &[u8]) -> bool
     ensures { λ r. ⌜ r ≡ roundingRight (now (case .entry)) ⌝ }
 {
-    let what = fields::byte(case, 0);
-    let found = answer(what, fields::number(fields::part(case, 8, 8)));
-    (1 <= what) & (what <= 12) & (found == fields::number(fields::part(case, 16, 8)))
+    let what = low::byte(case, 0);
+    let found = answer(what, low::number(low::part(case, 8, 8)));
+    (1 <= what) & (what <= 12) & (found == low::number(low::part(case, 16, 8)))
 }

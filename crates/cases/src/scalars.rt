@@ -80,7 +80,7 @@ fn value_said(a: Answer, rest: &[u8]) -> bool
     };
     let ty = type_of(s);
     let bits = bits_of(s);
-    (ty == fields::byte(rest, 5)) & (bits == fields::number(fields::part(rest, 9, 8)))
+    (ty == low::byte(rest, 5)) & (bits == low::number(low::part(rest, 9, 8)))
 }
 
 // Whether an answer is the one that the rest of a record says: status, detail and value.
@@ -94,8 +94,8 @@ fn is_said(a: Answer, rest: &[u8]) -> bool
 fn scalar_in(operand: &[u8]) -> Scalar
     ensures { λ r. ⌜ r ≡ scalarRead (now (operand .entry)) ⌝ }
 {
-    let bits = fields::number(fields::part(operand, 4, 8));
-    let Found::Value(s) = scalar_of(fields::byte(operand, 0), bits) else {
+    let bits = low::number(low::part(operand, 4, 8));
+    let Found::Value(s) = scalar_of(low::byte(operand, 0), bits) else {
         return Scalar::Bool(false);
     };
     s
@@ -105,12 +105,12 @@ fn scalar_in(operand: &[u8]) -> Scalar
 pub fn is_right(case: &[u8]) -> bool
     ensures { λ r. ⌜ r ≡ scalarRight (now (case .entry)) ⌝ }
 {
-    let op = fields::byte(case, 1);
-    let l = scalar_in(fields::part(case, 3, 12));
-    if fields::byte(case, 0) == 1 {
-        return is_said(unary(op, l), fields::part(case, 15, 17));
+    let op = low::byte(case, 1);
+    let l = scalar_in(low::part(case, 3, 12));
+    if low::byte(case, 0) == 1 {
+        return is_said(unary(op, l), low::part(case, 15, 17));
     }
-    let r = scalar_in(fields::part(case, 15, 12));
-    let stage = value::stage_of(fields::byte(case, 2));
-    is_said(binary(op, stage, l, r), fields::part(case, 27, 17))
+    let r = scalar_in(low::part(case, 15, 12));
+    let stage = value::stage_of(low::byte(case, 2));
+    is_said(binary(op, stage, l, r), low::part(case, 27, 17))
 }

@@ -9,13 +9,13 @@ ghost use Rattle.cases.specs.Judged.{shapeRight};
 fn asked(case: &[u8]) -> Outcome
     ensures { λ r. ⌜ r ≡ askedBy instanceIn (now (case .entry)) ⌝ }
 {
-    let op = fields::byte(case, 1);
-    let stage = fields::byte(case, 2);
-    let left = record::instance(fields::part(case, 3, 132));
-    if fields::byte(case, 0) == 1 {
+    let op = low::byte(case, 1);
+    let stage = low::byte(case, 2);
+    let left = record::instance(low::part(case, 3, 132));
+    if low::byte(case, 0) == 1 {
         return shape::unary(op, stage, left);
     }
-    let right = record::instance(fields::part(case, record::second(case), 132));
+    let right = record::instance(low::part(case, record::second(case), 132));
     shape::binary(op, stage, left, right)
 }
 

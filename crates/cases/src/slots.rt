@@ -6,5 +6,5 @@ ghost use Rattle.cases.specs.Judged.{slotRight};
 pub fn is_right(case: &[u8]) -> bool
     ensures { λ r. ⌜ r ≡ slotRight (now (case .entry)) ⌝ }
 {
-    slot::well_formed(case, 0) == (fields::byte(case, 136) == 1)
+    slot::well_formed(case, 0) == (low::byte(case, 136) == 1)
 }

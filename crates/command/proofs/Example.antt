@@ -6,22 +6,25 @@ use Prim.Native.Nat.{ℕ}
 use lib.ListN.{replicate}
 use Rattle.integer.specs.Wrap.{wrapU, wrapS}
 use Rattle.types.specs.Types.{commonType}
+use Rattle.types.specs.Edition.{plain}
 use Rattle.value.specs.Pattern.{keptOf}
 use Rattle.scalar.specs.Step.{stepOf, convOf}
 use Rattle.operand.specs.declared.Instance.{Instance}
-use Rattle.operand.specs.Operand.{upTo, every, operandFormed}
+use Rattle.operand.specs.Operand.{every, operandFormed}
+use Rattle.low.specs.Bytes.{upTo, lows, whole, part, patch, eights, numbers}
 use Rattle.components.specs.Components.{allOrRefusal}
 use Rattle.pairing.specs.Pairing.{targetsOf}
 use Rattle.dispatch.specs.Meaning.{byComponent, onConverted, convertedTo, judged, binaryMeaning}
-use Rattle.slot.specs.Bytes.{lows, whole, part, patch}
-use Rattle.slot.specs.Slot.{eights, numbers, bytesOf, saidBy, slot, put, each, componentFormed, componentsFormed, valueFormed, blank, formed, wellFormed, referenceTo}
-use Rattle.sheet.specs.Read.{Read, found, must}
-use Rattle.sheet.specs.Tree.{Entry, literal, reference, binary, setting, expression, names, namesOf}
-use Rattle.sheet.specs.Sheet.{readSheet}
+use Rattle.slot.specs.Slot.{bytesOf, saidBy, slot, put, each, componentFormed, componentsFormed, valueFormed, blank, formed, wellFormed, referenceTo}
+use Rattle.low.specs.Read.{Read, found, must}
+use Rattle.sheet.specs.Tree.{literal, reference, binary, setting, expression, names, namesOf}
+use Rattle.sheet.specs.Sheet.{Sheet, sheetOf, readSheet}
 use Rattle.sheet.proofs.Example.{bytes, example}
-use Rattle.fold.specs.Meaning.{onTwo, meaning, entryMeaning}
-use Rattle.fold.specs.Fresh.{entryAt, meansOf, refsOf, evaluated, fresh, freshAnswer, freshBytes}
-use Rattle.fold.specs.Change.{content, isSetting, settingType, faultOf, any, chain, withContent, changed, tally, changeAnswer, changeBytes}
+use Rattle.entries.specs.Entries.{entryAt, refsOf, isSetting, settingType}
+use Rattle.entries.specs.Depend.{any, chain, tally}
+use Rattle.work.specs.Meaning.{onTwo, meaning, entryMeaning}
+use Rattle.fold.specs.Fresh.{meansOf, evaluated, fresh, freshAnswer, freshBytes}
+use Rattle.fold.specs.Change.{content, faultOf, withContent, changed, changeAnswer, changeBytes}
 use Rattle.words.specs.Spelling.{lowDigit, letterDigit, digitOf, onwards, digitsOnly, spelled}
 use Rattle.words.specs.Split.{before, behind, wordAt, wordCount}
 use Rattle.text.specs.Text.{ascii, decimals, dec, hex, spaced, shown, line, lines, entries, listing, refusalLine}
@@ -47,11 +50,11 @@ words-ask = refl
 abbrev number : ℕ → Instance
 number k = record { ty = 4; cols = 1; rows = 1; comps = k ∷ replicate 15 0 }
 
-abbrev read : Read (List Entry)
-read = found (
+abbrev read : Read Sheet
+read = found (sheetOf plain 0 (
     setting (number 5) ∷
     expression 1 (binary 0 17 (literal (number 1)) (reference 0)) ∷
-    expression 1 (binary 0 4 (reference 1) (literal (number 1))) ∷ []) 59
+    expression 1 (binary 0 4 (reference 1) (literal (number 1))) ∷ [])) 59
 
 sheet-says : readSheet bytes ≡ read
 unfolding keptOf
@@ -78,4 +81,4 @@ unfolding pages page movedPage changePage afterChange changePages entriesOf text
 sheet-lists = refl
 
 pub example-listed : listingOf words true bytes ≡ listings
-example-listed = words-ask ∙ ap (λ (r : Read (List Entry)). pages false r asked) sheet-says ∙ sheet-lists
+example-listed = words-ask ∙ ap (λ (r : Read Sheet). pages false r asked) sheet-says ∙ sheet-lists

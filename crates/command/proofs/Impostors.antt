@@ -2,12 +2,11 @@
 -- cites gives a text that the wrong program does not.
 use mathlib.Core.Path.{_≡_, refl, ap, _∙_}
 use mathlib.Core.Bool.{true, false}
-use mathlib.Core.List.{List, [], _∷_, _++_}
+use mathlib.Core.List.{List, [], _++_}
 use Prim.Native.Nat.{ℕ, _<_}
 use lib.ListN.{length}
-use Rattle.sheet.specs.Read.{Read, refused, must}
-use Rattle.sheet.specs.Tree.{Entry}
-use Rattle.sheet.specs.Sheet.{readSheet}
+use Rattle.low.specs.Read.{Read, refused, must}
+use Rattle.sheet.specs.Sheet.{Sheet, readSheet}
 use Rattle.fold.specs.Fresh.{freshAnswer, freshBytes}
 use Rattle.fold.specs.Change.{changeAnswer, changeBytes, changeMarks}
 use Rattle.words.specs.Spelling.{lowDigit, letterDigit, digitOf, onwards, digitsOnly, spelled}
@@ -47,7 +46,7 @@ refused-pages = refl
 
 pub long-listed : (s : List ℕ) → 16384 < length s
     → pages true (readSheet s) (askedFrom 1 (changing (ascii "20\0")) 1) ≡ ascii "refused 20\n" ++ ascii "refused 20\n"
-long-listed s h = ap (λ (r : Read (List Entry)). pages true r (askedFrom 1 (changing (ascii "20\0")) 1)) (long-refused s h) ∙ refused-pages
+long-listed s h = ap (λ (r : Read Sheet). pages true r (askedFrom 1 (changing (ascii "20\0")) 1)) (long-refused s h) ∙ refused-pages
 
 -- a text that has no room is not cut short: a line says so, as much of it as there is room for
 pub no-room : printed 8 (ascii "sheet 3\n1") ≡ ascii "listing:"

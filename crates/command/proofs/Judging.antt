@@ -2,17 +2,17 @@
 use mathlib.Core.Path.{_≡_, refl, sym, ap, _∙_}
 use mathlib.Core.Logic.{⊎-elim}
 use mathlib.Core.Bool.{Bool, true, false, not, cond}
-use mathlib.Core.List.{List, [], _∷_, _++_}
-use Prim.Native.Nat.{ℕ, suc, _+_, _-_, _*_, _/_, _%_, _≤_, _<_}
+use mathlib.Core.List.{List, [], _∷_}
+use Prim.Native.Nat.{ℕ, suc, _+_, _-_, _/_, _%_, _≤_, _<_}
 use native.Mathlib.Omega.{arith}
 use lib.Dec.{eqb}
 use lib.ListN.{length, take, length-take}
 use lib.Seq.{take-all}
 use borrow.Author.Tests.{eq-eqb, ne-eqb, lt-ltb, le-ltb, le-leb, lt-leb, not-true, not-false}
 use Rattle.value.specs.Pattern.{pick}
-use Rattle.slot.specs.Bytes.{patch}
-use Rattle.slot.proofs.Parts.{le-or-lt}
-use Rattle.sheet.specs.Read.{refused, must}
+use Rattle.low.specs.Bytes.{patch}
+use Rattle.integer.proofs.Order.{le-or-lt}
+use Rattle.low.specs.Read.{refused, must}
 use Rattle.sheet.specs.Sheet.{readSheet}
 use Rattle.words.specs.Split.{wordAt, wordCount}
 use Rattle.text.specs.Text.{Put, ascii}

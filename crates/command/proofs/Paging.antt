@@ -1,21 +1,18 @@
 -- Laws of the pages of a sheet.
 use mathlib.Core.Path.{_≡_, refl, sym, ap, _∙_}
 use mathlib.Core.Bool.{Bool, true, false, not}
-use mathlib.Core.List.{List, [], _∷_, _++_, append-assoc, append-nil}
-use Prim.Native.Nat.{ℕ, zero, suc, _+_, _-_, _*_, _≤_, _<_}
+use mathlib.Core.List.{List, [], _++_, append-assoc, append-nil}
+use Prim.Native.Nat.{ℕ, _+_, _-_, _*_, _≤_, _<_}
 use native.Mathlib.Omega.{arith}
-use native.Mathlib.Nat.{not-suc-le-zero, le-of-suc-le-suc}
 use lib.ListN.{length, take, replicate}
 use borrow.Author.Tests.{not-true, not-false}
-use Rattle.sheet.specs.Read.{Read, found, refused}
-use Rattle.sheet.specs.Tree.{Entry}
-use Rattle.sheet.specs.Sheet.{readSheet, checkedOf}
-use Rattle.sheet.proofs.Sheets.{sheet-good}
-use Rattle.fold.specs.declared.Folded.{Folded}
-use Rattle.fold.specs.declared.Folded.the-variants.{Done, Refused}
-use Rattle.fold.specs.Fresh.{foldedOf, freshAnswer, freshBytes}
-use Rattle.fold.specs.Inside.{At}
-use Rattle.fold.proofs.Places.{at-few}
+use Rattle.low.specs.declared.Counted.{Counted}
+use Rattle.low.proofs.Parts.{zeros-of}
+use Rattle.low.specs.declared.Counted.the-variants.{Done, Refused}
+use Rattle.low.specs.Read.{Read, found, refused}
+use Rattle.sheet.specs.Sheet.{Sheet, readSheet, countedOf}
+use Rattle.entries.proofs.Places.{few}
+use Rattle.fold.specs.Fresh.{freshAnswer, freshBytes}
 use Rattle.fold.specs.Change.{changeAnswer, changeBytes, changeMarks}
 use Rattle.text.specs.Text.{listing, refusalLine, movedLine}
 use Rattle.asked.specs.declared.asked.Asked.{Asked}
@@ -32,27 +29,24 @@ shown-as p e = rw e at p
 
 -- the number of entries, from the check of a sheet
 module _ (s : List ℕ) where
-  pub entries-good : (x : Folded) (n : ℕ) → x ≡ foldedOf (checkedOf (readSheet s)) → x ≡ Done n → (n ≡ entriesOf (readSheet s)) × (n ≤ 128)
+  pub entries-good : (x : Counted) (n : ℕ) → x ≡ countedOf (readSheet s) → x ≡ Done n → (n ≡ entriesOf (readSheet s)) × (n ≤ 128)
   unfolding entriesOf
   entries-good x n e f = go (readSheet s) refl (sym f ∙ e)
     where
-      go : (y : Read (List Entry)) → readSheet s ≡ y → Done n ≡ foldedOf (checkedOf y) → (n ≡ entriesOf y) × (n ≤ 128)
-      go (found es z) q d =
-          let h : n ≡ length es = cc in
-          let first : At s es 0 0 = record { within = omega arith; end = z; rest = sheet-good s es z q } in
-          (h, omega (arith, at-few s es 0 first))
+      go : (y : Read Sheet) → readSheet s ≡ y → Done n ≡ countedOf y → (n ≡ entriesOf y) × (n ≤ 128)
+      go (found sh z) q d = let h : n ≡ length (sh .entries) = cc in (h, omega (arith, few s sh z q))
       go (refused k p) q d = let z : _≡_ {A = ℕ} 0 1 = cc in omega arith
 
-  pub entries-none : (x : Folded) (k p : ℕ) → x ≡ foldedOf (checkedOf (readSheet s)) → x ≡ Refused k p → _≡_ {A = ℕ} 0 (entriesOf (readSheet s))
+  pub entries-none : (x : Counted) (k p : ℕ) → x ≡ countedOf (readSheet s) → x ≡ Refused k p → _≡_ {A = ℕ} 0 (entriesOf (readSheet s))
   unfolding entriesOf
   entries-none x k p e f = go (readSheet s) (sym f ∙ e)
     where
-      go : (y : Read (List Entry)) → Refused k p ≡ foldedOf (checkedOf y) → _≡_ {A = ℕ} 0 (entriesOf y)
-      go (found es z) d = cc
+      go : (y : Read Sheet) → Refused k p ≡ countedOf y → _≡_ {A = ℕ} 0 (entriesOf y)
+      go (found sh z) d = cc
       go (refused a b) d = refl
 
 -- the page of an answer
-module _ (x : Folded) (b : List ℕ) where
+module _ (x : Counted) (b : List ℕ) where
   pub page-done : (n : ℕ) → x ≡ Done n → listing b ≡ page x b
   unfolding page
   page-done n e = rw e
@@ -61,7 +55,7 @@ module _ (x : Folded) (b : List ℕ) where
   unfolding page
   page-refused k p e = rw e
 
-module _ (v : Bool) (x : Folded) (ms : List Bool) (own : ℕ) where
+module _ (v : Bool) (x : Counted) (ms : List Bool) (own : ℕ) where
   pub moved-refused : (k p : ℕ) → x ≡ Refused k p → [] ≡ movedPage v x ms own
   unfolding movedPage
   moved-refused k p e = rw e
@@ -75,9 +69,9 @@ module _ (v : Bool) (x : Folded) (ms : List Bool) (own : ℕ) where
   moved-told n e h = rw (e, not-false v h)
 
 -- one change: what the calls gave is its page and the results afterwards
-module _ (v : Bool) (sheet : Read (List Entry)) (b : List ℕ) where
+module _ (v : Bool) (sheet : Read Sheet) (b : List ℕ) where
   module _ (entry ty bits : ℕ) (c : List ℕ) (f : c ≡ changeBytes sheet b entry ty bits) where
-    pub change-shown : (x : Folded) (ms : List Bool) → x ≡ changeAnswer sheet b entry ty bits
+    pub change-shown : (x : Counted) (ms : List Bool) → x ≡ changeAnswer sheet b entry ty bits
         → ms ≡ changeMarks sheet b entry ty bits (replicate 128 false)
         → movedPage v x ms entry ++ page x c ≡ changePage v sheet b (Change entry ty bits)
     unfolding changePage
@@ -96,12 +90,12 @@ module _ (v : Bool) (sheet : Read (List Entry)) (b : List ℕ) where
   bad-after a k e = ap (afterChange sheet b) e
 
 -- on the way: some changes are shown, and with the pages of those that are left their text is the whole one
-pub record Going (v : Bool) (sheet : Read (List Entry)) (whole l m : List ℕ) (a p : ℕ) (b : List ℕ) (asked : List Asked) : Type 0 where
+pub record Going (v : Bool) (sheet : Read Sheet) (whole l m : List ℕ) (a p : ℕ) (b : List ℕ) (asked : List Asked) : Type 0 where
   pub done : List ℕ
   pub shows : Shows l m a p done
   pub rest : done ++ changePages v sheet b asked ≡ whole
 
-module _ (v : Bool) (sheet : Read (List Entry)) (line : List ℕ) (from n : ℕ) (l : List ℕ) (a : ℕ) where
+module _ (v : Bool) (sheet : Read Sheet) (line : List ℕ) (from n : ℕ) (l : List ℕ) (a : ℕ) where
   pub going-start : (b : List ℕ) → Going v sheet (changePages v sheet b (askedFrom n line from)) l l a a b (left line from n 0)
   going-start b = record { done = []; shows = no-text l a; rest = ap (changePages v sheet b) (left-all line from n) }
 
@@ -128,17 +122,12 @@ module _ (v : Bool) (sheet : Read (List Entry)) (line : List ℕ) (from n : ℕ)
         (sym (append-nil (g .done)) ∙ ap (λ (r : List Asked). g .done ++ changePages v sheet b r) (sym (left-none line from n i h)) ∙ g .rest)
 
 -- the results before they are filled: zeros at the start of more zeros
-zeros : (n m : ℕ) → n ≤ m → take n (replicate {A = ℕ} m 0) ≡ replicate n 0
-zeros zero m h = refl
-zeros (suc n) zero h = absurd (not-suc-le-zero h)
-zeros (suc n) (suc m) h = ap (λ (t : List ℕ). 0 ∷ t) (zeros n m (le-of-suc-le-suc h))
-
-pub zeros-blank : (sheet : Read (List Entry)) (n k m : ℕ) → n ≡ entriesOf sheet → k ≡ 136 * n → k ≤ m → take k (replicate {A = ℕ} m 0) ≡ blank sheet
+pub zeros-blank : (sheet : Read Sheet) (n k m : ℕ) → n ≡ entriesOf sheet → k ≡ 136 * n → k ≤ m → take k (replicate {A = ℕ} m 0) ≡ blank sheet
 unfolding blank
-zeros-blank sheet n k m e f h = zeros k m h ∙ ap (λ (j : ℕ). replicate {A = ℕ} j 0) (f ∙ ap (λ (j : ℕ). 136 * j) e)
+zeros-blank sheet n k m e f h = zeros-of k m h ∙ ap (λ (j : ℕ). replicate {A = ℕ} j 0) (f ∙ ap (λ (j : ℕ). 136 * j) e)
 
 -- the page of the fresh results, and then the changes
-pub pages-shown : (v : Bool) (sheet : Read (List Entry)) (b : List ℕ) (x : Folded) (c : List ℕ) (asked : List Asked) → b ≡ blank sheet
+pub pages-shown : (v : Bool) (sheet : Read Sheet) (b : List ℕ) (x : Counted) (c : List ℕ) (asked : List Asked) → b ≡ blank sheet
     → x ≡ freshAnswer sheet b → c ≡ freshBytes sheet b → page x c ++ changePages v sheet c asked ≡ pages v sheet asked
 unfolding pages
 pages-shown v sheet b x c asked e f g = rw (f, g, e)

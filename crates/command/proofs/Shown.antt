@@ -1,15 +1,16 @@
 -- Texts one after another in a buffer that may have no room for all of them.
-use mathlib.Core.Path.{_≡_, refl, sym, ap, _∙_}
+use mathlib.Core.Path.{_≡_, sym, ap, _∙_}
 use mathlib.Core.Logic.{⊎-elim}
 use mathlib.Core.List.{List, [], _∷_, _++_}
-use Prim.Native.Nat.{ℕ, suc, _+_, _-_, _≤_, _<_}
+use Prim.Native.Nat.{ℕ, _+_, _-_, _≤_, _<_}
 use native.Mathlib.Omega.{arith}
 use native.Mathlib.Nat.{add-zero}
 use native.Mathlib.Numerals.{add-one}
 use lib.ListN.{length, take, drop, getD, set, length-append, length-take}
 use lib.Seq.{take-all, take-nil, take-suc, take-append-add, take-append-le, take-append-seam}
-use Rattle.slot.specs.Bytes.{patch}
-use Rattle.slot.proofs.Parts.{le-or-lt, patch-none, patch-next, length-patch}
+use Rattle.low.specs.Bytes.{patch}
+use Rattle.integer.proofs.Order.{le-or-lt}
+use Rattle.low.proofs.Parts.{patch-none, patch-next, length-patch}
 use Rattle.text.specs.Text.{Put}
 use Rattle.text.proofs.Pieces.{one-byte}
 use Rattle.command.specs.Inside.{fitting, Shows}

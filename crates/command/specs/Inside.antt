@@ -3,7 +3,7 @@ use Prim.Native.Nat.{ℕ, _+_, _-_}
 use mathlib.Core.Path.{_≡_}
 use mathlib.Core.List.{List}
 use lib.ListN.{length, take}
-use Rattle.slot.specs.Bytes.{patch}
+use Rattle.low.specs.Bytes.{patch}
 
 -- as much of a text as a buffer has room for from a place on
 unfoldable pub fitting : List ℕ → ℕ → List ℕ → List ℕ

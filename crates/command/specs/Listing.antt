@@ -5,11 +5,10 @@ use mathlib.Core.List.{List, [], _∷_, _++_}
 use lib.Dec.{eqb, leb, ltb}
 use lib.ListN.{length, take, replicate}
 use Rattle.value.specs.Pattern.{pick}
-use Rattle.sheet.specs.Read.{Read, found, refused, must}
-use Rattle.sheet.specs.Tree.{Entry}
-use Rattle.sheet.specs.Sheet.{readSheet}
-use Rattle.fold.specs.declared.Folded.{Folded}
-use Rattle.fold.specs.declared.Folded.the-variants.{Done, Refused}
+use Rattle.low.specs.declared.Counted.{Counted}
+use Rattle.low.specs.declared.Counted.the-variants.{Done, Refused}
+use Rattle.low.specs.Read.{Read, found, refused, must}
+use Rattle.sheet.specs.Sheet.{Sheet, readSheet}
 use Rattle.fold.specs.Fresh.{freshAnswer, freshBytes}
 use Rattle.fold.specs.Change.{changeAnswer, changeBytes, changeMarks}
 use Rattle.words.specs.Split.{wordAt, wordCount}
@@ -29,41 +28,41 @@ complaint what word = ascii "listing: " ++ what ++ word ++ ascii "\n"
 
 -- ---- the pages
 -- "A refused sheet lists as `refused` and its number", and so does a refused change; else the results are listed
-unfoldable pub page : Folded → List ℕ → List ℕ
+unfoldable pub page : Counted → List ℕ → List ℕ
 page (Done n) results = listing results
 page (Refused number place) results = refusalLine number
 
 -- with `-v`, the entries that a change moved stand before its listing
-unfoldable pub movedPage : Bool → Folded → List Bool → ℕ → List ℕ
+unfoldable pub movedPage : Bool → Counted → List Bool → ℕ → List ℕ
 movedPage v (Done n) marks own = pick v (movedLine n marks own) []
 movedPage v (Refused number place) marks own = []
 
 -- one change of the results: what is printed of it, and the results afterwards
-unfoldable pub changePage : Bool → Read (List Entry) → List ℕ → Asked → List ℕ
+unfoldable pub changePage : Bool → Read Sheet → List ℕ → Asked → List ℕ
 changePage v sheet results (Change entry ty bits) =
     movedPage v (changeAnswer sheet results entry ty bits) (changeMarks sheet results entry ty bits (replicate 128 false)) entry
     ++ page (changeAnswer sheet results entry ty bits) (changeBytes sheet results entry ty bits)
 changePage v sheet results (Bad k) = []
 
-unfoldable pub afterChange : Read (List Entry) → List ℕ → Asked → List ℕ
+unfoldable pub afterChange : Read Sheet → List ℕ → Asked → List ℕ
 afterChange sheet results (Change entry ty bits) = changeBytes sheet results entry ty bits
 afterChange sheet results (Bad k) = results
 
 -- after each change its listing, over the results as they then stand
-unfoldable pub changePages : Bool → Read (List Entry) → List ℕ → List Asked → List ℕ
+unfoldable pub changePages : Bool → Read Sheet → List ℕ → List Asked → List ℕ
 changePages v sheet results [] = []
 changePages v sheet results (a ∷ more) = changePage v sheet results a ++ changePages v sheet (afterChange sheet results a) more
 
 -- "Results: 136 bytes an entry": fresh evaluation fills them, whatever they held; a refused sheet has no entries
-unfoldable pub entriesOf : Read (List Entry) → ℕ
-entriesOf (found es n) = length es
+unfoldable pub entriesOf : Read Sheet → ℕ
+entriesOf (found sh n) = length (sh .entries)
 entriesOf (refused number place) = 0
 
-unfoldable pub blank : Read (List Entry) → List ℕ
+unfoldable pub blank : Read Sheet → List ℕ
 blank sheet = replicate (136 * entriesOf sheet) 0
 
 -- the listing of the fresh results, and then each change
-unfoldable pub pages : Bool → Read (List Entry) → List Asked → List ℕ
+unfoldable pub pages : Bool → Read Sheet → List Asked → List ℕ
 pages v sheet changes =
     page (freshAnswer sheet (blank sheet)) (freshBytes sheet (blank sheet))
     ++ changePages v sheet (freshBytes sheet (blank sheet)) changes

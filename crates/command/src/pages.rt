@@ -2,7 +2,7 @@
 use crate::show;
 use asked::Asked;
 use asked::change_at;
-use fold::Folded;
+use low::Counted;
 ghost use mathlib.Core.Path.{_≡_};
 ghost use Prim.Native.Nat.{_+_, _*_, _^_, _≤_, _<_};
 ghost use Rattle.sheet.specs.Sheet.{readSheet};
@@ -12,17 +12,17 @@ ghost use Rattle.asked.specs.declared.asked.Asked.the-variants as asked;
 ghost use Rattle.command.specs.Inside.{Shows};
 
 // The listing of results, or the refusal's number.
-fn page(out: &mut [u8], at: usize, answer: Folded, results: &[u8]) -> usize
+fn page(out: &mut [u8], at: usize, answer: Counted, results: &[u8]) -> usize
     requires { ⌜ at + 65536 < 2 ^ 64 ⌝ }
     ensures { λ r. ⌜ Shows (now (out .entry)) (now (out .exit)) at r (page answer (now (results .entry))) × (r ≤ at + 65536) ⌝ }
 {
     let mut space = io::large_buffer();
     match answer {
-        Folded::Done(_) => {
+        Counted::Done(_) => {
             let n = text::list(&mut space, results);
             show::text(out, at, &space[..n])
         }
-        Folded::Refused(number, _) => {
+        Counted::Refused(number, _) => {
             let n = text::refuse(&mut space, number);
             show::text(out, at, &space[..n])
         }
@@ -33,7 +33,7 @@ fn page(out: &mut [u8], at: usize, answer: Folded, results: &[u8]) -> usize
 fn moved(
     out: &mut [u8],
     at: usize,
-    answer: Folded,
+    answer: Counted,
     marks: &[bool; 128],
     own: u64,
     verbose: bool,
@@ -41,7 +41,7 @@ fn moved(
     requires { ⌜ at + 65536 < 2 ^ 64 ⌝ }
     ensures { λ r. ⌜ Shows (now (out .entry)) (now (out .exit)) at r (movedPage verbose answer (now (marks .entry)) own) × (r ≤ at + 65536) ⌝ }
 {
-    let Folded::Done(dependents) = answer else {
+    let Counted::Done(dependents) = answer else {
         return at;
     };
     if !verbose {
@@ -125,7 +125,7 @@ fn changes(
 fn entries(sheet: &[u8]) -> usize
     ensures { λ r. ⌜ (r ≡ entriesOf (readSheet (now (sheet .entry)))) × (r ≤ 128) ⌝ }
 {
-    let Folded::Done(n) = fold::check(sheet) else {
+    let Counted::Done(n) = fold::check(sheet) else {
         return 0;
     };
     n

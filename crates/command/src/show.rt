@@ -1,9 +1,9 @@
 // Texts at a place of a buffer, as much of them as it has room for. Each says the place after the whole text.
 ghost use mathlib.Core.Path.{_≡_};
 ghost use mathlib.Core.List.{_∷_, []};
-ghost use Prim.Native.Nat.{_+_, _^_, _<_, _≤_};
+ghost use Prim.Native.Nat.{_+_, _^_, _<_};
 ghost use lib.ListN.{length};
-ghost use Rattle.slot.specs.Bytes.{patch};
+ghost use Rattle.low.specs.Bytes.{patch};
 ghost use Rattle.command.specs.Inside.{Shows, fitting};
 ghost use Rattle.command.specs.Listing.{complaint};
 

@@ -8,7 +8,7 @@ use Rattle.value.specs.Pattern.{keptOf}
 use Rattle.scalar.specs.declared.Step.the-variants as S
 use Rattle.scalar.specs.Step.{stepOf, unaryStepOf, convOf}
 use Rattle.integer.specs.Wrap.{wrapU, wrapS}
-use Rattle.operand.specs.Operand.{upTo}
+use Rattle.low.specs.Bytes.{upTo}
 use Rattle.components.specs.Components.{Out, got, stop, allOrRefusal, eachComponent, endedBy, lane, binaryAt, unaryAt, convertedAt}
 
 abbrev two : ℕ → ℕ → List ℕ

@@ -16,7 +16,8 @@ use Rattle.scalar.specs.declared.Conv.the-variants as C
 use Rattle.scalar.specs.Step.{stepOf, unaryStepOf, convOf}
 use Rattle.scalar.proofs.Keeps.{Refuses, no-binary}
 use Rattle.scalar.proofs.Promises.{Stepped, Converted, step-answers, unary-answers, conversion-answers}
-use Rattle.operand.specs.Operand.{upTo, componentAt}
+use Rattle.operand.specs.Operand.{componentAt}
+use Rattle.low.specs.Bytes.{upTo}
 use Rattle.operand.proofs.Answers.{Fine, Sixteen}
 use Rattle.components.specs.Components.{Out, got, stop, andThen, allOrRefusal, eachComponent, stepResult, convResult, binaryAt, unaryAt, convertedAt}
 use Rattle.components.proofs.Traverse.{putAt, each-step}

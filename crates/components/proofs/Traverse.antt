@@ -9,7 +9,7 @@ use native.Mathlib.Numerals.{add-one}
 use lib.ListN.{length, getD, set, replicate, length-append, List·getD-append}
 use lib.Seq.{set-at, getD-at}
 use Rattle.value.specs.declared.Refusal.{Refusal}
-use Rattle.operand.specs.Operand.{upTo}
+use Rattle.low.specs.Bytes.{upTo}
 use Rattle.components.specs.Components.{Out, got, stop, andThen, allOrRefusal, padded, eachComponent}
 
 -- ---- a list with one component more

@@ -9,7 +9,7 @@ use Rattle.scalar.specs.declared.Step.{Step}
 use Rattle.scalar.specs.declared.Step.the-variants as S
 use Rattle.value.specs.declared.Refusal.{Refusal}
 use Rattle.scalar.specs.Step.{stepOf}
-use Rattle.operand.specs.Operand.{upTo}
+use Rattle.low.specs.Bytes.{upTo}
 use Rattle.components.specs.Components.{Out, got, stop, allOrRefusal, eachComponent, endedBy, stepResult}
 use Rattle.components.proofs.Traverse.{each-more, each-stop}
 

@@ -10,7 +10,8 @@ use Rattle.scalar.specs.declared.Conv.the-variants as C
 use Rattle.value.specs.Pattern.{pick}
 use Rattle.value.specs.Refusals as No
 use Rattle.scalar.specs.Step.{refusal, stepOf, unaryStepOf, convOf}
-use Rattle.operand.specs.Operand.{upTo, componentAt, isScalar}
+use Rattle.operand.specs.Operand.{componentAt, isScalar}
+use Rattle.low.specs.Bytes.{upTo}
 use Rattle.components.specs.declared.Run.{Run}
 use Rattle.operand.specs.declared.Shape.{Shape}
 

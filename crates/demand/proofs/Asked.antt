@@ -9,19 +9,21 @@ use lib.ListN.{length}
 use borrow.Author.Tests.{eq-eqb, eqb-true}
 use Rattle.value.specs.Pattern.{pick}
 use Rattle.operand.specs.declared.Instance.{Instance}
-use Rattle.sheet.specs.Read.{Read, found, refused, must}
+use Rattle.low.specs.Read.{Read, found, refused, must}
 use Rattle.sheet.specs.Tree.{Entry, setting, expression}
-use Rattle.sheet.specs.Sheet.{readSheet}
-use Rattle.fold.specs.declared.Folded.{Folded}
-use Rattle.fold.specs.declared.Folded.the-variants.{Done, Refused}
-use Rattle.fold.specs.Fresh.{entryAt, meansOf, refsOf}
-use Rattle.fold.specs.Change.{contentBytes, isSetting, settingType, faultOf, depends, changed, tally, changeAnswer, changeBytes}
-use Rattle.fold.proofs.Answers.{setting-among, no-fault}
+use Rattle.sheet.specs.Sheet.{Sheet, readSheet}
+use Rattle.entries.specs.Entries.{entryAt, refsOf, isSetting, settingType}
+use Rattle.entries.specs.Depend.{depends, tally}
+use Rattle.low.specs.declared.Counted.{Counted}
+use Rattle.low.specs.declared.Counted.the-variants.{Done, Refused}
+use Rattle.fold.specs.Fresh.{meansOf}
+use Rattle.fold.specs.Change.{contentBytes, faultOf, changed, changeAnswer, changeBytes}
+use Rattle.fold.proofs.Answers.{setting-among, no-fault, proper-in}
 use Rattle.fold.proofs.Theorems as theorems
 use Rattle.demand.specs.Demand.{answered, after, Content, Asked, ChangeMeets}
 
 -- ---- the setting and its type
-module _ (es : List Entry) (i ty bits : ℕ) (c : Content es i ty bits) where
+module _ (es : Sheet) (i ty bits : ℕ) (c : Content es i ty bits) where
   is-setting : isSetting (entryAt es i) ≡ true
   unfolding isSetting
   is-setting = ap isSetting (c .setting)
@@ -30,13 +32,13 @@ module _ (es : List Entry) (i ty bits : ℕ) (c : Content es i ty bits) where
   unfolding settingType
   setting-typed = c .type ∙ sym (ap settingType (c .setting))
 
-  pub content-among : i < length es
+  pub content-among : i < length (es .entries)
   content-among = setting-among es i is-setting
 
   -- no check refuses it
-  pub passes : (size : ℕ) → size ≡ 136 * length es → faultOf es size i ty bits ≡ 0
+  pub passes : (size : ℕ) → size ≡ 136 * length (es .entries) → faultOf es size i ty bits ≡ 0
   unfolding faultOf must
-  passes size h = rw (eq-eqb size (136 * length es) h, is-setting, c .proper, eq-eqb ty (settingType (entryAt es i)) setting-typed)
+  passes size h = rw (eq-eqb size (136 * length (es .entries)) h, is-setting, proper-in (es .edition) ty bits ∙ c .proper, eq-eqb ty (settingType (entryAt es i)) setting-typed)
 
 a-setting : (x : Entry) → isSetting x ≡ true → (v : Instance) × (x ≡ setting v) × (settingType x ≡ v .ty)
 unfolding isSetting settingType
@@ -44,7 +46,7 @@ a-setting (setting v) h = (v, refl, refl)
 a-setting (expression stage t) h = absurd (false≢true h)
 
 -- what no check refuses is asked
-pub passed : (s l : List ℕ) (es : List Entry) (n i ty bits : ℕ) → readSheet s ≡ found es n → faultOf es (length l) i ty bits ≡ 0 → Asked s l es i ty bits
+pub passed : (s l : List ℕ) (es : Sheet) (n i ty bits : ℕ) → readSheet s ≡ found es n → faultOf es (length l) i ty bits ≡ 0 → Asked s l es i ty bits
 passed s l es n i ty bits good e =
     let f = no-fault es (length l) i ty bits e in
     let v = a-setting (entryAt es i) (f .setting) in
@@ -57,22 +59,22 @@ passed s l es n i ty bits good e =
 
 -- ---- what a call answers
 module _ (s l : List ℕ) (i ty bits : ℕ) where
-  done-asked : (x : Read (List Entry)) → readSheet s ≡ x → (count : ℕ) → changeAnswer x l i ty bits ≡ Done count → (es : List Entry) × Asked s l es i ty bits
+  done-asked : (x : Read Sheet) → readSheet s ≡ x → (count : ℕ) → changeAnswer x l i ty bits ≡ Done count → (es : Sheet) × Asked s l es i ty bits
   unfolding changeAnswer
   done-asked (found es n) good count e = go (eqb (faultOf es (length l) i ty bits) 0) refl e
     where
       go : (b : Bool) → eqb (faultOf es (length l) i ty bits) 0 ≡ b
-          → pick b (Done (tally (depends (refsOf es) i) (length es))) (Refused (faultOf es (length l) i ty bits) 0) ≡ Done count
-          → (es : List Entry) × Asked s l es i ty bits
+          → pick b (Done (tally (depends (refsOf es) i) (length (es .entries)))) (Refused (faultOf es (length l) i ty bits) 0) ≡ Done count
+          → (es : Sheet) × Asked s l es i ty bits
       go true q h = (es, passed s l es n i ty bits good (eqb-true (faultOf es (length l) i ty bits) 0 q))
       go false q h = absurd (let z : _≡_ {A = ℕ} 0 1 = cc in omega arith)
   done-asked (refused k p) good count e = absurd (let z : _≡_ {A = ℕ} 0 1 = cc in omega arith)
 
-  refused-keeps : (x : Read (List Entry)) (k p : ℕ) → changeAnswer x l i ty bits ≡ Refused k p → changeBytes x l i ty bits ≡ l
+  refused-keeps : (x : Read Sheet) (k p : ℕ) → changeAnswer x l i ty bits ≡ Refused k p → changeBytes x l i ty bits ≡ l
   unfolding changeAnswer changeBytes
-  refused-keeps (found es n) k p e = go (eqb (faultOf es (length l) i ty bits) 0) (changed (meansOf es) (refsOf es) i (contentBytes ty bits) (length es) l) e
+  refused-keeps (found es n) k p e = go (eqb (faultOf es (length l) i ty bits) 0) (changed (meansOf es) (refsOf es) i (contentBytes ty bits) (length (es .entries)) l) e
     where
-      go : (b : Bool) (r : List ℕ) → pick b (Done (tally (depends (refsOf es) i) (length es))) (Refused (faultOf es (length l) i ty bits) 0) ≡ Refused k p
+      go : (b : Bool) (r : List ℕ) → pick b (Done (tally (depends (refsOf es) i) (length (es .entries)))) (Refused (faultOf es (length l) i ty bits) 0) ≡ Refused k p
           → pick b r l ≡ l
       go true r h = absurd (let z : _≡_ {A = ℕ} 0 1 = cc in omega arith)
       go false r h = refl
@@ -87,6 +89,6 @@ module _ (s l : List ℕ) (i ty bits : ℕ) where
       }
 
   -- so does whatever equals what is answered and left
-  pub outcome-meets : (answer : Folded) (r : List ℕ) → answer ≡ answered s l i ty bits → r ≡ after s l i ty bits → ChangeMeets s l i ty bits answer r
+  pub outcome-meets : (answer : Counted) (r : List ℕ) → answer ≡ answered s l i ty bits → r ≡ after s l i ty bits → ChangeMeets s l i ty bits answer r
   outcome-meets answer r e f =
-      subst (λ (x : Folded). ChangeMeets s l i ty bits x r) (sym e) (subst (ChangeMeets s l i ty bits (answered s l i ty bits)) (sym f) change-meets)
+      subst (λ (x : Counted). ChangeMeets s l i ty bits x r) (sym e) (subst (ChangeMeets s l i ty bits (answered s l i ty bits)) (sym f) change-meets)

@@ -12,8 +12,7 @@ use Rattle.fold.proofs.change.Kinds as change-kinds
 use Rattle.fold.proofs.change.Reads as change-reads
 use Rattle.fold.proofs.evaluate.Kinds as evaluate-kinds
 use Rattle.fold.proofs.evaluate.Reads as evaluate-reads
-use Rattle.sheet.specs.Tree.{Entry}
-use Rattle.sheet.specs.Sheet.{readSheet}
+use Rattle.sheet.specs.Sheet.{Sheet, readSheet}
 use Rattle.fold.specs.Fresh.{freshBytes}
 use Rattle.demand.specs.Demand.{after, Content, ChangeMeets, amended, Versions}
 use Rattle.demand.proofs.Asked.{outcome-meets}
@@ -29,7 +28,7 @@ pub calls-fresh : (κs : Lfts 2) (a : Dens κs evaluate-kinds.ps) (x : resT eval
     (ιs : Lfts 2) (b : Dens ιs change-kinds.ps) (y : resT change-kinds.r ιs .Denot) (t : AtExit (endedOf 2 change-kinds.ps change-kinds.r) ιs)
     (μs : Lfts 2) (c : Dens μs evaluate-kinds.ps) (z : resT evaluate-kinds.r μs .Denot) (u : AtExit (endedOf 2 evaluate-kinds.ps evaluate-kinds.r) μs)
     → evaluate-reads.Post κs a x s → change-reads.Post ιs b y t → evaluate-reads.Post μs c z u
-    → (es : List Entry) → Versions (now (b .0)) (now (a .0)) es → length (now (a .1 .0)) ≡ 136 * length es → length (now (c .1 .0)) ≡ 136 * length es
+    → (es : Sheet) → Versions (now (b .0)) (now (a .0)) es → length (now (a .1 .0)) ≡ 136 * length (es .entries) → length (now (c .1 .0)) ≡ 136 * length (es .entries)
     → Content es (b .1 .1 .0) (b .1 .1 .1 .0) (b .1 .1 .1 .1 .0) → now (b .1 .0) ≡ s .1 .0 .now → now (c .0) ≡ amended (now (a .0)) (b .1 .1 .0) (b .1 .1 .1 .1 .0)
     → t .1 .0 .now ≡ u .1 .0 .now
 calls-fresh κs a x s ιs b y t μs c z u p q r es v hl hr k lent changed =

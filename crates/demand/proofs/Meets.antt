@@ -4,12 +4,13 @@ use mathlib.Core.Bool.{true}
 use mathlib.Core.List.{List, [], _∷_, List·Memᴰ}
 use Prim.Native.Nat.{ℕ, _*_}
 use native.Mathlib.Omega.{arith}
-use lib.ListN.{length, set, length-set}
+use lib.ListN.{length, length-set}
 use borrow.Author.Tests.{eq-eqb}
-use Rattle.sheet.specs.Read.{Read, found, must}
-use Rattle.sheet.specs.Tree.{Entry, setting}
-use Rattle.sheet.specs.Sheet.{readSheet}
-use Rattle.fold.specs.Fresh.{meansOf, refsOf, fresh, freshBytes}
+use Rattle.low.specs.Read.{Read, found, must}
+use Rattle.sheet.specs.Tree.{setting}
+use Rattle.sheet.specs.Sheet.{Sheet, readSheet}
+use Rattle.entries.specs.Entries.{refsOf, withSetting}
+use Rattle.fold.specs.Fresh.{meansOf, fresh, freshBytes}
 use Rattle.fold.specs.Change.{content}
 use Rattle.fold.proofs.Evaluated.{is-filled}
 use Rattle.fold.proofs.Theorems.{ord, fresh-any, fresh-again}
@@ -18,25 +19,25 @@ use Rattle.demand.proofs.Asked.{passes, change-meets}
 use Rattle.demand.proofs.Amends.{amends, amend-meets, itself, content-there, amended-version}
 
 -- fresh results over a buffer of the right length
-fresh-of : (x : Read (List Entry)) (es : List Entry) (n : ℕ) (l : List ℕ) → x ≡ found es n → length l ≡ 136 * length es → freshBytes x l ≡ fresh es l
+fresh-of : (x : Read Sheet) (es : Sheet) (n : ℕ) (l : List ℕ) → x ≡ found es n → length l ≡ 136 * length (es .entries) → freshBytes x l ≡ fresh es l
 unfolding freshBytes must
-fresh-of x es n l e h = rw (e, eq-eqb (length l) (136 * length es) h)
+fresh-of x es n l e h = rw (e, eq-eqb (length l) (136 * length (es .entries)) h)
 
-fresh-long : (s : List ℕ) (es : List Entry) (n : ℕ) (l : List ℕ) → readSheet s ≡ found es n → length l ≡ 136 * length es → length (fresh es l) ≡ 136 * length es
+fresh-long : (s : List ℕ) (es : Sheet) (n : ℕ) (l : List ℕ) → readSheet s ≡ found es n → length l ≡ 136 * length (es .entries) → length (fresh es l) ≡ 136 * length (es .entries)
 unfolding fresh
 fresh-long s es n l good h =
-    is-filled (λ k j. List·Memᴰ j (refsOf es k)) (ord s es n good .earlier) (meansOf es) (ord s es n good .local) (λ k. true) (length es) l h .long
+    is-filled (λ k j. List·Memᴰ j (refsOf es k)) (ord s es n good .earlier) (meansOf es) (ord s es n good .local) (λ k. true) (length (es .entries)) l h .long
 
 pub fresh-meets : FreshAgain
 fresh-meets s t es v l r hl hr i ty bits c =
     let fs = v .others in
-    let gs = set fs i (setting (content ty bits)) in
-    let sized : length l ≡ 136 * length fs = omega (arith, v .version .long) in
+    let gs = withSetting fs i (content ty bits) in
+    let sized : length l ≡ 136 * length (fs .entries) = omega (arith, v .version .long) in
     let m = amend-meets t fs (v .ends) i ty bits (v .bytes) (v .accepts) (content-there es fs i ty bits (v .version) c) in
-    let long : length (fresh fs l) ≡ 136 * length es = omega (arith, fresh-long t fs (v .ends) l (v .accepts) sized, v .version .long) in
-    let wide = length-set fs i (setting (content ty bits)) in
-    let left : length l ≡ 136 * length gs = omega (arith, wide) in
-    let right : length r ≡ 136 * length gs = omega (arith, wide) in
+    let long : length (fresh fs l) ≡ 136 * length (es .entries) = omega (arith, fresh-long t fs (v .ends) l (v .accepts) sized, v .version .long) in
+    let wide = length-set (fs .entries) i (setting (content ty bits)) in
+    let left : length l ≡ 136 * length (gs .entries) = omega (arith, wide) in
+    let right : length r ≡ 136 * length (gs .entries) = omega (arith, wide) in
     ap (λ (k : List ℕ). after s k i ty bits) (fresh-of (readSheet t) fs (v .ends) l (v .accepts) sized)
     ∙ fresh-again s t es fs (v .end) (v .ends) (v .accepted) (v .accepts) (v .version) l i ty bits hl (passes es i ty bits c (length (fresh fs l)) long)
     ∙ sym (fresh-of (readSheet (amended t i bits)) gs (v .ends) l (m .reads) left)

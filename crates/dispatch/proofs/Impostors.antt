@@ -7,7 +7,7 @@ use Rattle.integer.specs.Wrap.{wrapU, wrapS}
 use Rattle.types.specs.Types.{commonType}
 use Rattle.value.specs.Pattern.{keptOf}
 use Rattle.scalar.specs.Step.{stepOf, unaryStepOf, convOf}
-use Rattle.operand.specs.Operand.{upTo}
+use Rattle.low.specs.Bytes.{upTo}
 use Rattle.operand.specs.Outcome.{refusedWith, valueOf}
 use Rattle.operand.specs.declared.Instance.{Instance}
 use Rattle.components.specs.Components.{allOrRefusal}

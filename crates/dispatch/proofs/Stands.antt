@@ -24,7 +24,7 @@ use Rattle.operand.specs.declared.Instance.{Instance}
 use Rattle.operand.specs.declared.Outcome.{Outcome}
 use Rattle.operand.specs.declared.Shape.{Shape}
 use Rattle.pairing.specs.declared.Targets.the-variants as T
-use Rattle.operand.proofs.Tests.{both, one-of}
+use Rattle.low.proofs.Tests.{both, one-of}
 use Rattle.operand.proofs.Shapes.{formed-shaped, formed-small, formed-at}
 use Rattle.components.proofs.Traverse.{each-same, allOf, each-got, all-at}
 use Rattle.products.proofs.Sums.{sum-same}

@@ -4,18 +4,21 @@ use mathlib.Core.Path.{_≡_, refl, sym, ap, _∙_}
 use mathlib.Core.List.{List, [], List·Memᴰ}
 use mathlib.Core.Bool.{Bool, true, false, _||_, or-comm, false≢true}
 use mathlib.Core.Logic.{⊎-elim, inr, _≢_}
-use Prim.Native.Nat.{ℕ, _*_, _<_}
+use Prim.Native.Nat.{ℕ, zero, suc, _+_, _-_, _*_, _<_, _≤_}
 use native.Mathlib.Omega.{arith}
 use lib.Dec.{eqb}
-use lib.ListN.{length}
-use borrow.Author.Tests.{eq-eqb, ne-eqb, eqb-true}
+use lib.ListN.{length, getD}
+use borrow.Author.Tests.{eq-eqb, ne-eqb, eqb-true, le-leb, lt-leb}
 use Rattle.value.specs.Pattern.{pick}
-use Rattle.slot.specs.Slot.{slot}
+use Rattle.slot.specs.Slot.{slot, put}
 use Rattle.fold.specs.Fresh.{Means, evaluated}
-use Rattle.fold.specs.Change.{depends, touched, withContent, changed, tally}
-use Rattle.fold.specs.Demand.{Leads, Changed}
-use Rattle.fold.proofs.Evaluated.{Filled, Local, alike, only, is-filled}
-use Rattle.fold.proofs.Depend.{or-cases, or-none, touched-self, untouched-uses, depends-leads, leads-after, touched-leads, not-touched, depends-tells, tells-tally}
+use Rattle.entries.specs.Depend.{Leads, depends, touched, tally}
+use Rattle.fold.specs.Change.{withContent, changed}
+use Rattle.fold.specs.Demand.{Changed}
+use Rattle.fold.specs.Inside.{markedFrom}
+use Rattle.fold.proofs.Evaluated.{Filled, Local, alike, only, is-filled, evaluated-more, evaluated-none}
+use Rattle.entries.proofs.Chains.{touched-self, not-before, untouched-uses, depends-leads, leads-after, touched-leads, not-touched, depends-tells, tells-tally}
+use Rattle.low.proofs.Tests.{one-of, or-none}
 
 -- all n entries worked out
 abbrev pub evaluatedAll : Means → ℕ → List ℕ → List ℕ
@@ -81,7 +84,7 @@ module _ (m : Means) (refs : ℕ → List ℕ) (ord : Ordered m refs) where
               ⊎-elim
               (λ t. let q = eqb-true k i t in rw q (p .own ∙ sym (content-here m i c r)))
               (λ t. let q = depends-leads refs i (ord .earlier) k t in p .works k h q ∙ sym (content-elsewhere m i c k r (λ z. let b = leads-after refs i (ord .earlier) q in omega arith)))
-              (or-cases (eqb k i) _ e);
+              (one-of (eqb k i) _ e);
         }
 
     -- a change is what the demand asks
@@ -209,3 +212,38 @@ module _ (m : Means) (refs : ℕ → List ℕ) (ord : Ordered m refs) (n : ℕ) 
       swap k r true p false q = rw (p, q)
       swap k r false p true q = rw (p, q)
       swap k r false p false q = rw (p, q)
+
+-- ---- a change as it is made: the content is put, then the marked entries after it are worked
+module _ (m : Means) (refs : ℕ → List ℕ) (earlier : (k j : ℕ) → List·Memᴰ j (refs k) → j < k) (i : ℕ) (c l : List ℕ) where
+  -- the buffer after the turns of the first k entries
+  abbrev turned : ℕ → List ℕ
+  turned k = evaluated (withContent m i c) (touched refs i) k l
+
+  -- before the setting nothing is chosen, and its own turn puts the content
+  turned-own : turned (i + 1) ≡ put l i c
+  turned-own =
+      let none : turned i ≡ l = evaluated-none _ (touched refs i) i l (λ j q. not-before refs i earlier j q) in
+      evaluated-more _ (touched refs i) i l ∙ rw (touched-self refs i earlier, none, content-here m i c l)
+
+  module _ (marks : List Bool) (n : ℕ) (right : (k : ℕ) → k < n → getD marks k false ≡ touched refs i k) where
+    turned-on : (j : ℕ) → i + 1 + j ≤ n → turned (i + 1 + j) ≡ evaluated m (markedFrom (i + 1) marks) (i + 1 + j) (put l i c)
+    turned-on zero h =
+        let e : i + 1 + 0 ≡ i + 1 = omega arith in
+        rw e (turned-own ∙ sym (evaluated-none m (markedFrom (i + 1) marks) (i + 1) (put l i c) (λ k q. rw (lt-leb (i + 1) k q))))
+    turned-on (suc j) h =
+        let e : i + 1 + suc j ≡ (i + 1 + j) + 1 = omega arith in
+        let k = i + 1 + j in
+        let chosen : markedFrom (i + 1) marks k ≡ touched refs i k = rw (le-leb (i + 1) k (omega arith)) (right k (omega arith)) in
+        rw e
+        (evaluated-more (withContent m i c) (touched refs i) k l
+        ∙ ap (λ (t : List ℕ). pick (touched refs i k) (put (turned k) k t) (turned k)) (content-elsewhere m i c k (turned k) (omega arith))
+        ∙ ap (λ (t : List ℕ). pick (touched refs i k) (put t k (m k t)) t) (turned-on j (omega arith))
+        ∙ ap (λ (b : Bool). pick b (put (later k) k (m k (later k))) (later k)) (sym chosen)
+        ∙ sym (evaluated-more m (markedFrom (i + 1) marks) k (put l i c)))
+      where
+        later : ℕ → List ℕ
+        later k = evaluated m (markedFrom (i + 1) marks) k (put l i c)
+
+    pub changed-marked : i < n → evaluated m (markedFrom (i + 1) marks) n (put l i c) ≡ changed m refs i c n l
+    unfolding changed
+    changed-marked h = let e : i + 1 + (n - (i + 1)) ≡ n = omega arith in rw e at (sym (turned-on (n - (i + 1)) (omega arith)))

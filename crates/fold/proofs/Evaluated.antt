@@ -116,3 +116,9 @@ pub evaluated-none : (m : Means) (d : ℕ → Bool) (n : ℕ) (l : List ℕ) →
 unfolding evaluated
 evaluated-none m d zero l f = refl
 evaluated-none m d (suc k) l f = rw (f k (omega arith)) (evaluated-none m d k l (λ j h. f j (omega arith)))
+
+-- only of the first n entries is it asked whether they are chosen
+pub evaluated-chosen : (m : Means) (d f : ℕ → Bool) (n : ℕ) (l : List ℕ) → ((k : ℕ) → k < n → d k ≡ f k) → evaluated m d n l ≡ evaluated m f n l
+unfolding evaluated
+evaluated-chosen m d f zero l e = refl
+evaluated-chosen m d f (suc k) l e = rw (e k (omega arith), evaluated-chosen m d f k l (λ j h. e j (omega arith)))

@@ -7,23 +7,26 @@ use Prim.Native.Nat.{ℕ, _+_, _*_}
 use lib.ListN.{getD, replicate}
 use Rattle.value.specs.Pattern.{keptOf}
 use Rattle.scalar.specs.Step.{stepOf, convOf}
-use Rattle.operand.specs.Operand.{upTo, every, operandFormed}
+use Rattle.operand.specs.Operand.{every, operandFormed}
+use Rattle.low.specs.Bytes.{upTo, lows, whole, part, patch, eights, numbers}
 use Rattle.components.specs.Components.{allOrRefusal}
 use Rattle.pairing.specs.Pairing.{targetsOf}
 use Rattle.operand.specs.declared.Instance.{Instance}
 use Rattle.operand.specs.Outcome.{refusedWith}
 use Rattle.dispatch.specs.Meaning.{byComponent, onConverted, convertedTo, judged, binaryMeaning}
-use Rattle.slot.specs.Bytes.{lows, whole, part, patch}
-use Rattle.slot.specs.Slot.{eights, numbers, bytesOf, saidBy, slot, put, each, componentFormed, componentsFormed, valueFormed, blank, formed, wellFormed, referenceTo}
-use Rattle.sheet.specs.Read.{found, must, thenRead}
+use Rattle.slot.specs.Slot.{bytesOf, saidBy, slot, put, each, componentFormed, componentsFormed, valueFormed, blank, formed, wellFormed, referenceTo}
+use Rattle.low.specs.Read.{found, must, thenRead, readAs}
 use Rattle.sheet.specs.Tree.{literal, reference, binary, setting, expression, names, namesOf}
 use Rattle.sheet.specs.Record.{readHead, readRecord}
-use Rattle.sheet.specs.Sheet.{readRecords, readSheet, checkedOf}
+use Rattle.sheet.specs.Sheet.{sheetOf, readRecords, readFrom, readSheet, countedOf}
 use Rattle.sheet.proofs.Example.{example}
-use Rattle.fold.specs.declared.Folded.the-variants.{Done, Refused}
-use Rattle.fold.specs.Meaning.{onTwo, meaning, entryMeaning}
-use Rattle.fold.specs.Fresh.{entryAt, meansOf, refsOf, evaluated, foldedOf, freshAnswer}
-use Rattle.fold.specs.Change.{content, isSetting, settingType, faultOf, any, chain, withContent, changed, tally, marksOf, changeAnswer, changeBytes, changeMarks}
+use Rattle.entries.specs.Entries.{entryAt, refsOf, isSetting, settingType}
+use Rattle.entries.specs.Depend.{any, chain, tally}
+use Rattle.work.specs.Meaning.{onTwo, meaning, entryMeaning}
+use Rattle.low.specs.declared.Counted.the-variants.{Done, Refused}
+use Rattle.types.specs.Edition.{plain}
+use Rattle.fold.specs.Fresh.{meansOf, evaluated, freshAnswer}
+use Rattle.fold.specs.Change.{content, faultOf, withContent, changed, changeAnswer, changeBytes, changeMarks}
 
 -- a U32 literal below 256, as bytes and as a value
 abbrev number : ℕ → List ℕ
@@ -44,16 +47,16 @@ abbrev results : List ℕ
 results = replicate 408 0
 
 example-read : readSheet sheet
-    ≡ found (setting (value 5) ∷ expression 1 (binary 0 17 (literal (value 1)) (reference 0)) ∷ expression 1 (binary 0 4 (reference 1) (literal (value 1))) ∷ []) 59
+    ≡ found (sheetOf plain 0 (setting (value 5) ∷ expression 1 (binary 0 17 (literal (value 1)) (reference 0)) ∷ expression 1 (binary 0 4 (reference 1) (literal (value 1))) ∷ [])) 59
 unfolding keptOf
 example-read = example
 
 -- check: a refusal is told with its place; and no count but the sheet's own is told
-pub place-told : foldedOf (checkedOf (readSheet (recorded 4 0 []))) ≡ Refused 23 2
-unfolding readRecords readRecord readHead must thenRead readSheet
+pub place-told : countedOf (readSheet (recorded 4 0 [])) ≡ Refused 23 2
+unfolding readRecords readRecord readHead must thenRead readAs readFrom readSheet
 place-told = refl
 
-pub entries-counted : foldedOf (checkedOf (readSheet sheet)) ≡ Done 3
+pub entries-counted : countedOf (readSheet sheet) ≡ Done 3
 entries-counted = rw example-read
 
 -- evaluate: results of another size are not filled
@@ -82,7 +85,7 @@ dependents-counted = rw example-read
 
 -- change_marking: the setting and both dependents are marked, and no other entry
 pub dependents-marked : changeMarks (readSheet sheet) results 0 4 32 [] ≡ true ∷ true ∷ true ∷ replicate 125 false
-unfolding changeMarks faultOf isSetting settingType entryAt must refsOf names namesOf any chain marksOf
+unfolding changeMarks faultOf isSetting settingType entryAt must refsOf names namesOf any chain upTo
 dependents-marked = rw example-read
 
 -- change: 01's second listing. The statuses and details of the three slots: a refused dependent ends nothing, and the place of a refusal is told

@@ -1,8 +1,5 @@
 pub mod Evaluated
-pub mod Depend
 pub mod Changes
-pub mod Trees
-pub mod Places
 pub mod Steps
 pub mod Answers
 pub mod Theorems

@@ -1,25 +1,17 @@
 -- What is asked of a change, in the words of the demand: which slots it works, which it keeps, and its count.
 use Prim.Native.Nat.{ℕ, _*_, _<_}
 use mathlib.Core.Path.{_≡_}
-use mathlib.Core.Bool.{Bool, true}
+use mathlib.Core.Bool.{Bool}
 use mathlib.Core.Logic.{_≢_}
-use mathlib.Core.List.{List, List·Memᴰ}
+use mathlib.Core.List.{List}
 use lib.ListN.{length}
 use Rattle.operand.specs.declared.Instance.{Instance}
 use Rattle.slot.specs.Slot.{slot}
 use Rattle.sheet.specs.Tree.{Entry, setting}
-use Rattle.fold.specs.Fresh.{Means, entryAt}
-use Rattle.fold.specs.Change.{tally}
-
--- an entry depends on a setting if a chain of references leads there, whatever the answers are
-pub data Leads (refs : ℕ → List ℕ) (i : ℕ) : ℕ → Type 0 where
-  direct : {k : ℕ} → List·Memᴰ i (refs k) → Leads refs i k
-  chained : {k j : ℕ} → List·Memᴰ j (refs k) → Leads refs i j → Leads refs i k
-
--- a test tells which of the first n entries depend on i
-pub record Tells (refs : ℕ → List ℕ) (i n : ℕ) (p : ℕ → Bool) : Type 0 where
-  pub only : (k : ℕ) → k < n → p k ≡ true → Leads refs i k
-  pub all : (k : ℕ) → k < n → Leads refs i k → p k ≡ true
+use Rattle.sheet.specs.Sheet.{Sheet}
+use Rattle.entries.specs.Entries.{entryAt}
+use Rattle.entries.specs.Depend.{Leads, Tells, tally}
+use Rattle.fold.specs.Fresh.{Means}
 
 -- after setting i of n entries is changed to the content c over the buffer l: the buffer r and the count.
 -- kept: the other slots of entries that do not depend on it; own: its slot is the content;
@@ -36,7 +28,8 @@ pub data SameButContent (e f : Entry) : Type 0 where
   same : f ≡ e → SameButContent e f
   contents : (v w : Instance) → e ≡ setting v → f ≡ setting w → w .ty ≡ v .ty → SameButContent e f
 
--- the entries fs are a version of the entries es: entry by entry the same, but for what settings hold
-pub record Version (es fs : List Entry) : Type 0 where
-  pub long : length fs ≡ length es
+-- the sheet fs is a version of the sheet es: of the same edition, and entry by entry the same, but for what settings hold
+pub record Version (es fs : Sheet) : Type 0 where
+  pub edition : fs .edition ≡ es .edition
+  pub long : length (fs .entries) ≡ length (es .entries)
   pub each : (k : ℕ) → SameButContent (entryAt es k) (entryAt fs k)

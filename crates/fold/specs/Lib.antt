@@ -1,4 +1,3 @@
-pub mod Meaning
 pub mod Fresh
 pub mod Change
 pub mod Demand

@@ -1,53 +1,34 @@
-// The change of a setting: its checks, and the turn of each entry after it.
-use crate::spans::span_at;
+// The change of a setting: its checks, its content, and the turn of each dependent.
+use crate::marked::work_marked;
+use entries::Setting;
 use operand::Instance;
 use value::refusals;
 ghost use mathlib.Core.Path.{_≡_};
+ghost use Prim.Native.Nat.{_*_};
 ghost use lib.Dec.{eqb};
 ghost use lib.ListN.{length};
+ghost use Rattle.low.specs.Read.{must};
 ghost use Rattle.value.specs.Pattern.{properOf};
 ghost use Rattle.slot.specs.Slot.{put};
-ghost use Rattle.sheet.specs.Read.{must};
+ghost use Rattle.entries.specs.Inside.{Ready};
 ghost use Rattle.fold.specs.Change.{content, contentBytes};
-ghost use Rattle.fold.specs.Inside.{Here, SettingAt, Turns, Found, Judged, Ready, Applied};
+ghost use Rattle.fold.specs.Inside.{Found, Judged, Applied};
 
-// Whether a record is a setting's, and of which type.
-pub enum Setting {
-    Of(u8),
-    None,
+// Whether so many bytes are 136 for each of n entries.
+pub(crate) fn sized(size: usize, n: usize) -> bool
+    ensures { λ r. ⌜ r ≡ eqb size (136 * n) ⌝ }
+{
+    (size / 136 == n) & (size % 136 == 0)
 }
 
-// An entry's turn: the place after its record, and 1 if it is a dependent.
-pub struct Advance {
-    pub next: usize,
-    pub count: usize,
-}
-
-// The place of entry i's record among n, or the sheet's end.
+// The place of the record of entry i of n; 0 if there is no such entry.
 pub(crate) fn find(s: &[u8], n: usize, i: u64) -> usize
     ensures { λ r. ⌜ Found (now (s .entry)) n i r ⌝ }
 {
-    let mut at: usize = 0;
-    let mut k: usize = 0;
-    while (k < n) & ((k as u64) < i) {
-        let r = span_at(s, at);
-        at = r.next;
-        k += 1;
+    if n as u64 <= i {
+        return 0;
     }
-    at
-}
-
-// The setting at a place: its type is that of its body.
-fn setting_at(s: &[u8], at: usize) -> Setting
-    ensures { λ r. ⌜ SettingAt (now (s .entry)) at r ⌝ }
-{
-    let r = span_at(s, at);
-    if r.stage != 3 {
-        return Setting::None;
-    }
-    let x = sheet::literal_at(sheet::body(s, r.start, r.len), 0);
-    let v = x.value;
-    Setting::Of(v.ty)
+    entries::place_after(s, entries::begin(s), i as usize)
 }
 
 // The checks of new content against the setting's own type: 26, 32, or 0 if both pass.
@@ -67,13 +48,13 @@ fn judge_content(ty: u8, bits: u64, own: u8) -> u8
 pub(crate) fn judge(s: &[u8], results: &[u8], n: usize, at: usize, i: u64, ty: u8, bits: u64) -> u8
     ensures { λ r. ⌜ Judged (now (s .entry)) (length (now (results .entry))) n at i ty bits r ⌝ }
 {
-    if !crate::fill::sized(results.len(), n) {
+    if !sized(results.len(), n) {
         return refusals::RESULTS_SIZE;
     }
     if n as u64 <= i {
         return refusals::NOT_A_SETTING;
     }
-    let Setting::Of(own) = setting_at(s, at) else {
+    let Setting::Of(own) = entries::setting_at(s, at) else {
         return refusals::NOT_A_SETTING;
     };
     judge_content(ty, bits, own)
@@ -101,30 +82,7 @@ fn put_content(results: &mut [u8], i: usize, ty: u8, bits: u64)
     slot::put(results, i, o);
 }
 
-// Entry k's turn: it is worked out over the slots as they stand if it names a marked entry, and is then marked itself.
-fn turn(s: &[u8], results: &mut [u8], marks: &mut [bool; 128], k: usize, at: usize) -> Advance
-    requires { ⌜ Here (now s) k at ⌝ }
-    ensures { λ t. ⌜ Turns (now (s .entry)) k at (now (results .entry)) (now (results .exit)) (now (marks .entry)) (now (marks .exit)) t ⌝ }
-{
-    let r = span_at(s, at);
-    let b = sheet::body(s, r.start, r.len);
-    if sheet::names_marked(b, marks) {
-        let o = crate::walk::work(b, results, r.stage);
-        slot::put(results, k, o);
-        marks[k] = true;
-        return Advance {
-            next: r.next,
-            count: 1,
-        };
-    }
-    marks[k] = false;
-    Advance {
-        next: r.next,
-        count: 0,
-    }
-}
-
-// Setting i, whose record is at a place, gets its content, and each entry after it its turn. Answers the number of dependents.
+// Setting i, whose record is at a place, gets its content, and each of its dependents is worked. Answers how many there are.
 pub(crate) fn apply(
     s: &[u8],
     results: &mut [u8],
@@ -136,20 +94,11 @@ pub(crate) fn apply(
     marks: &mut [bool; 128],
 ) -> usize
     requires { ⌜ Ready (now s) n i place ⌝ }
-    ensures { λ r. ⌜ Applied (now (s .entry)) n i place ty bits (now (results .entry)) (now (results .exit)) (now (marks .exit)) r ⌝ }
+    ensures { λ r. ⌜ Applied (now (s .entry)) n i ty bits (now (results .entry)) (now (results .exit)) (now (marks .exit)) r ⌝ }
 {
+    let count = entries::dependents(s, n, i, place, marks);
     put_content(results, i, ty, bits);
-    *marks = [false; 128];
-    marks[i] = true;
-    let own = span_at(s, place);
-    let mut at = own.next;
-    let mut count: usize = 0;
-    let mut k = i + 1;
-    while k < n {
-        let t = turn(s, results, marks, k, at);
-        at = t.next;
-        count += t.count;
-        k += 1;
-    }
+    let own = entries::span_at(s, place);
+    work_marked(s, results, n, i + 1, own.next, marks);
     count
 }

@@ -6,8 +6,9 @@ use mathlib.Core.Logic.{⊎-elim}
 use Prim.Native.Nat.{ℕ, zero, suc, _+_, _<_}
 use native.Mathlib.Nat.{eq-or-lt-of-le, le-of-suc-le-suc, not-suc-le-zero}
 use native.Mathlib.Numerals.{add-one}
-use Rattle.operand.specs.Operand.{upTo, every}
-use Rattle.operand.proofs.Tests.{both}
+use Rattle.operand.specs.Operand.{every}
+use Rattle.low.specs.Bytes.{upTo}
+use Rattle.low.proofs.Tests.{both}
 
 every-snoc : (p : ℕ → Bool) (s : List ℕ) (x : ℕ) → every p (s ++ (x ∷ [])) ≡ (every p s && p x)
 unfolding every

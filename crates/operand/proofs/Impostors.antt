@@ -4,7 +4,8 @@ use mathlib.Core.Bool.{true, false}
 use mathlib.Core.List.{_∷_}
 use lib.Dec.{eqb}
 use lib.ListN.{getD, replicate}
-use Rattle.operand.specs.Operand.{shapeOk, isScalar, isVector, isMatrix, componentCount, upTo, every, operandFormed, aScalar}
+use Rattle.operand.specs.Operand.{shapeOk, isScalar, isVector, isMatrix, componentCount, every, operandFormed, aScalar}
+use Rattle.low.specs.Bytes.{upTo}
 use Rattle.operand.specs.Outcome.{refusedWith, valueOf}
 
 -- five rows; a matrix of one row, of integers, of no type

@@ -1,5 +1,4 @@
 -- The laws of this crate. Assumes nothing.
-pub mod Tests
 pub mod Every
 pub mod Shapes
 pub mod Answers

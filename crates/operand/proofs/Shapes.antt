@@ -8,12 +8,15 @@ use native.Mathlib.Nat.{mul-le-mul, eq-or-lt-of-le}
 use lib.Dec.{eqb, leb}
 use borrow.Author.Tests.{leb-true, eqb-true, le-leb, eq-eqb, ne-eqb}
 use Rattle.types.specs.Types.{knownOf, floatOf}
+use Rattle.types.specs.Edition.{Edition}
+use Rattle.types.proofs.Editions.{in-edition}
 use Rattle.value.specs.Pattern.{properOf}
 use Rattle.value.proofs.Widths.{not-proper}
-use Rattle.operand.specs.Operand.{shapeOk, shapeOf, componentCount, Small, upTo, every, componentAt, operandFormed, aScalar}
+use Rattle.operand.specs.Operand.{shapeOk, shapeIn, shapeOf, componentCount, Small, every, componentAt, operandFormed, aScalar}
+use Rattle.low.specs.Bytes.{upTo}
 use Rattle.operand.specs.declared.Instance.{Instance}
 use Rattle.operand.specs.declared.Shape.{Shape}
-use Rattle.operand.proofs.Tests.{both, both-true, one-of}
+use Rattle.low.proofs.Tests.{both, both-true, one-of}
 use Rattle.operand.proofs.Every.{every-at}
 
 -- ---- a known type and shape
@@ -60,6 +63,10 @@ module _ (ty : ℕ) (s : Shape) (e : shapeOk ty (s .cols) (s .rows) ≡ true) wh
             (λ p. (leb-true _ _ (matrix-rows ty (s .cols) (s .rows) p .1), matrix-float ty (s .cols) (s .rows) p .1))
             (one-of (eqb (s .cols) 1) _ (parts .1));
       }
+
+-- an edition has every type, so it asks no more of a shape
+pub shape-in : (e : Edition) (ty c r : ℕ) → shapeIn e ty c r ≡ shapeOk ty c r
+shape-in e ty c r = in-edition e ty (shapeOk ty c r) (λ q. shaped ty (record { cols = c; rows = r }) q .known)
 
 pub shape-small : (ty c r : ℕ) → shapeOk ty c r ≡ true → Small (record { cols = c; rows = r })
 shape-small ty c r e = shaped ty (record { cols = c; rows = r }) e .small

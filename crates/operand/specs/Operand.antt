@@ -1,17 +1,23 @@
 -- Which operands are well formed, and which of their components are in use. Assumes nothing.
-use Prim.Native.Nat.{ℕ, zero, suc, _*_, _≤_}
+use Prim.Native.Nat.{ℕ, _*_, _≤_}
 use mathlib.Core.Bool.{Bool, true, _&&_, _||_}
-use mathlib.Core.List.{List, [], _∷_, _++_}
+use mathlib.Core.List.{List, [], _∷_}
 use lib.Dec.{eqb, leb}
 use lib.ListN.{getD, replicate}
 use Rattle.types.specs.Types.{knownOf, floatOf}
+use Rattle.types.specs.Edition.{Edition, inEdition}
 use Rattle.value.specs.Pattern.{properOf}
+use Rattle.low.specs.Bytes.{upTo}
 use Rattle.operand.specs.declared.Instance.{Instance}
 use Rattle.operand.specs.declared.Shape.{Shape}
 
 -- a known type; 1,1 scalar; 1,2 to 1,4 vector; 2 to 4 by 2 to 4 matrix, of floats only
 abbrev pub shapeOk : ℕ → ℕ → ℕ → Bool
 shapeOk ty c r = knownOf ty && leb 1 r && leb r 4 && (eqb c 1 || (leb 2 c && leb c 4 && leb 2 r && floatOf ty))
+
+-- the same of a sheet's literals and slots, whose types are those of its edition
+abbrev pub shapeIn : Edition → ℕ → ℕ → ℕ → Bool
+shapeIn e ty c r = inEdition e ty && shapeOk ty c r
 
 -- columns and rows of an operand
 abbrev pub shapeOf : Instance → Shape
@@ -40,11 +46,6 @@ componentCount s = s .cols * s .rows
 -- columns and rows from 1 to 4
 abbrev pub Small : Shape → Type 0
 Small s = (1 ≤ s .cols) × (s .cols ≤ 4) × (1 ≤ s .rows) × (s .rows ≤ 4)
-
--- f 0, f 1 and so on, n of them
-unfoldable pub upTo : {A : Type 0} → (ℕ → A) → ℕ → List A
-upTo f zero = []
-upTo f (suc n) = upTo f n ++ (f n ∷ [])
 
 -- whether a test holds of each
 unfoldable pub every : (ℕ → Bool) → List ℕ → Bool

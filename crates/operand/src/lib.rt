@@ -2,7 +2,8 @@
 ghost use mathlib.Core.Path.{_≡_};
 ghost use Prim.Native.Nat.{_≤_};
 ghost use Rattle.value.specs.Pattern.{properOf};
-ghost use Rattle.operand.specs.Operand.{shapeOk, inShape, isScalar, isVector, isMatrix, componentCount, Small, upTo, every, componentAt, operandFormed};
+ghost use Rattle.operand.specs.Operand.{shapeOk, inShape, isScalar, isVector, isMatrix, componentCount, Small, every, componentAt, operandFormed};
+ghost use Rattle.low.specs.Bytes.{upTo};
 ghost use Rattle.operand.specs.Outcome.{refusedWith, valueOf};
 
 // A scalar, vector or matrix: its components, column by column, and its type, columns and rows. The components stand first, at

@@ -13,7 +13,7 @@ use Rattle.types.proofs.Goes.{goes-known, float-goes}
 use Rattle.value.specs.Pattern.{pick}
 use Rattle.operand.specs.Operand.{isMatrix}
 use Rattle.operand.specs.declared.Shape.{Shape}
-use Rattle.operand.proofs.Tests.{both, one-of}
+use Rattle.low.proofs.Tests.{both, one-of}
 use Rattle.pairing.specs.Pairing.{pairOk, toBoth, targetsOf}
 use Rattle.pairing.specs.declared.Targets.the-variants as T
 

@@ -9,7 +9,7 @@ use Rattle.rounding.specs.Kind.{unitsIn, roundTo, convert}
 use Rattle.value.specs.Answer.{refusal}
 use Rattle.value.specs.Pattern.{keptOf}
 use Rattle.scalar.specs.Step.{stepOf}
-use Rattle.operand.specs.Operand.{upTo}
+use Rattle.low.specs.Bytes.{upTo}
 use Rattle.components.specs.Components.{got, stop, allOrRefusal, eachComponent}
 use Rattle.products.specs.Products.{sumTo, cellAt, vectorMatrix}
 

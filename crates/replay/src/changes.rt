@@ -14,17 +14,17 @@ fn is_answered(sheet: &[u8], results: &mut [u8], change: &[u8]) -> bool {
     let answer = booth::sheet_change(
         sheet,
         results,
-        fields::word(change, 0) as u64,
-        fields::byte(change, 4),
-        fields::number(fields::part(change, 5, 8)),
+        low::word(change, 0) as u64,
+        low::byte(change, 4),
+        low::number(low::part(change, 5, 8)),
     );
-    answers(answer, fields::part(change, 13, 5))
+    answers(answer, low::part(change, 13, 5))
 }
 
 // The places after the change at a place: after it stands 1 where the whole buffer follows, of n bytes, and else 0.
 fn after(change: &[u8], n: usize, p: Place) -> Place {
     let at = wrapping_add_usize(p.at, 19);
-    if fields::byte(change, 18) == 1 {
+    if low::byte(change, 18) == 1 {
         return Place {
             right: p.right,
             at: wrapping_add_usize(at, n),
@@ -40,10 +40,10 @@ fn after(change: &[u8], n: usize, p: Place) -> Place {
 
 // One change, and whether it answers and leaves the bytes that it must.
 fn changed(sheet: &[u8], case: &[u8], results: &mut [u8], p: Place) -> Place {
-    let change = fields::part(case, p.at, 19);
+    let change = low::part(case, p.at, 19);
     let right = is_answered(sheet, results, change);
     let q = after(change, results.len(), p);
-    let same = check::same(results, fields::part(case, q.bytes, results.len()));
+    let same = check::same(results, low::part(case, q.bytes, results.len()));
     Place {
         right: right & same,
         at: q.at,
@@ -74,23 +74,23 @@ fn put(out: &mut [u8], from: &[u8]) {
 
 // A record: the sheet's length, the sheet, the buffer's length, the buffer, the number of changes, and the changes.
 pub(crate) fn is_right(case: &[u8]) -> bool {
-    let n = fields::word(case, 0) as usize;
+    let n = low::word(case, 0) as usize;
     let start = 8 + n;
-    let size = fields::word(case, 4 + n) as usize;
+    let size = low::word(case, 4 + n) as usize;
     let end = start + size;
     if 32768 < size {
         return false;
     }
     let mut results = [0u8; 32768];
-    put(&mut results, fields::part(case, start, size));
+    put(&mut results, low::part(case, start, size));
     let first = Place {
         right: true,
         at: end + 2,
         bytes: start,
     };
-    let count = fields::number(fields::part(case, end, 2)) as usize;
+    let count = low::number(low::part(case, end, 2)) as usize;
     all_changed(
-        fields::part(case, 4, n),
+        low::part(case, 4, n),
         case,
         &mut results[0..size],
         first,

@@ -43,11 +43,11 @@ fn size(fd: i32, kind: Kind) -> u64 {
         Kind::Slots => 137,
         Kind::Scalars | Kind::Shapes => {
             io::read_full(fd, &mut two);
-            fields::word(&two, 0) as u64
+            low::word(&two, 0) as u64
         }
         Kind::Sheets | Kind::Changes => {
             io::read_full(fd, &mut four);
-            fields::word(&four, 0) as u64
+            low::word(&four, 0) as u64
         }
     }
 }

@@ -4,7 +4,7 @@ use cases::answers;
 // Whether the check of a sheet answers what a record says. It knows nothing of the size of results (30), which is judged after it.
 fn checks(sheet: &[u8], said: &[u8]) -> bool {
     let answer = booth::sheet_check(sheet);
-    if fields::byte(said, 0) == 30 {
+    if low::byte(said, 0) == 30 {
         return answer < 0x1_0000_0000;
     }
     answers(answer, said)
@@ -13,12 +13,12 @@ fn checks(sheet: &[u8], said: &[u8]) -> bool {
 // Whether evaluation over a buffer answers what the rest of a record says, and leaves the bytes that it says. A refusal leaves those
 // that were there before.
 fn evaluates(sheet: &[u8], before: &[u8], results: &mut [u8], rest: &[u8]) -> bool {
-    let said = fields::part(rest, 5, 5);
+    let said = low::part(rest, 5, 5);
     if !(answers(booth::sheet_fresh(sheet, results), said) & checks(sheet, said)) {
         return false;
     }
-    if fields::byte(said, 0) == 0 {
-        return check::same(results, fields::part(rest, 10, before.len()));
+    if low::byte(said, 0) == 0 {
+        return check::same(results, low::part(rest, 10, before.len()));
     }
     check::same(results, before)
 }
@@ -26,14 +26,14 @@ fn evaluates(sheet: &[u8], before: &[u8], results: &mut [u8], rest: &[u8]) -> bo
 // A record: the sheet's length, the sheet, the buffer's length, the byte that fills it, number, detail, and where the number is 0 the
 // whole buffer afterwards.
 pub(crate) fn is_right(case: &[u8]) -> bool {
-    let n = fields::word(case, 0) as usize;
-    let sheet = fields::part(case, 4, n);
-    let rest = fields::part(case, 4 + n, 65536);
-    let size = fields::word(rest, 0) as usize;
+    let n = low::word(case, 0) as usize;
+    let sheet = low::part(case, 4, n);
+    let rest = low::part(case, 4 + n, 65536);
+    let size = low::word(rest, 0) as usize;
     if 32768 < size {
         return false;
     }
-    let before = [fields::byte(rest, 4); 32768];
+    let before = [low::byte(rest, 4); 32768];
     let mut results = before;
     evaluates(sheet, &before[0..size], &mut results[0..size], rest)
 }

@@ -33,7 +33,8 @@ use Rattle.value.specs.Pair.{pairOf, bothOf}
 use Rattle.value.specs.Pattern.{pick, keptOf, nanPattern}
 use Rattle.scalar.specs.Step.{stepped, stepOf, onBits, productAdded}
 use Rattle.arithmetic.proofs.Arms.{half-arm}
-use Rattle.types.proofs.Choice.{picked, passed, both}
+use Rattle.types.proofs.Choice.{picked, passed}
+use Rattle.low.proofs.Tests.{both}
 use Rattle.arithmetic.proofs.Negated.{half-reads}
 use Rattle.value.proofs.Sound.{bits-proper, kept-once}
 use Rattle.value.specs.Refusals as No

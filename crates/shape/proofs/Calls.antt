@@ -6,7 +6,7 @@ use Rattle.operand.specs.Operand.{operandFormed}
 use Rattle.operand.specs.Outcome.{refusedWith}
 use Rattle.operand.specs.declared.Instance.{Instance}
 use Rattle.operand.specs.declared.Outcome.{Outcome}
-use Rattle.operand.proofs.Tests.{both}
+use Rattle.low.proofs.Tests.{both}
 use Rattle.pairing.specs.Pairing.{opKnown, unaryKnown, stageKnown, callFault}
 use Rattle.pairing.proofs.Picks.{no-fault}
 use Rattle.dispatch.specs.Meaning.{refuseUnless, judged, unaryJudged, unaryMeaning, binaryMeaning}

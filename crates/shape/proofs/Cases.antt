@@ -5,7 +5,8 @@ use Prim.Native.Nat.{ℕ, _-_}
 use lib.ListN.{length, replicate}
 use Rattle.value.specs.Pattern.{keptOf}
 use Rattle.scalar.specs.Step.{stepOf, convOf}
-use Rattle.operand.specs.Operand.{upTo, every, operandFormed}
+use Rattle.operand.specs.Operand.{every, operandFormed}
+use Rattle.low.specs.Bytes.{upTo}
 use Rattle.components.specs.Components.{allOrRefusal}
 use Rattle.products.specs.Products.{sumTo}
 use Rattle.pairing.specs.Pairing.{targetsOf}

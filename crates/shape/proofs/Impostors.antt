@@ -8,7 +8,8 @@ use lib.Dec.{eqb}
 use lib.ListN.{getD, replicate}
 use Rattle.value.specs.Pattern.{keptOf}
 use Rattle.scalar.specs.Step.{stepOf, unaryStepOf, convOf}
-use Rattle.operand.specs.Operand.{upTo, every, operandFormed}
+use Rattle.operand.specs.Operand.{every, operandFormed}
+use Rattle.low.specs.Bytes.{upTo}
 use Rattle.components.specs.Components.{allOrRefusal}
 use Rattle.pairing.specs.Pairing.{targetsOf}
 use Rattle.types.specs.Types.{commonType}

@@ -16,7 +16,8 @@ use Rattle.scalar.specs.Step.{refusal, stepOf, unaryStepOf, convOf}
 use Rattle.scalar.proofs.Rights.{Righted, unary-righted, rightless}
 use Rattle.types.specs.Types.{rightOf, unaryRightOf, resultType}
 use Rattle.value.specs.Refusals as No
-use Rattle.operand.specs.Operand.{shapeOk, shapeOf, isScalar, isMatrix, componentCount, upTo, every, componentAt, operandFormed, aScalar}
+use Rattle.operand.specs.Operand.{shapeOk, shapeOf, isScalar, isMatrix, componentCount, every, componentAt, operandFormed, aScalar}
+use Rattle.low.specs.Bytes.{upTo}
 use Rattle.components.specs.Components.{Out, got, stop, allOrRefusal, eachComponent, stepResult, convResult, binaryAt, unaryAt, lane, convertedAt}
 use Rattle.pairing.specs.Pairing.{opKnown, unaryKnown, stageKnown, innerOk, sameShape, pairOk, targetsOf}
 use Rattle.operand.specs.Outcome.{refusedWith}
@@ -27,7 +28,7 @@ use Rattle.operand.specs.declared.Outcome.{Outcome}
 use Rattle.operand.specs.declared.Shape.{Shape}
 use Rattle.pairing.specs.declared.Targets.{Targets}
 use Rattle.pairing.specs.declared.Targets.the-variants as T
-use Rattle.operand.proofs.Tests.{both}
+use Rattle.low.proofs.Tests.{both}
 
 -- ---- the tests of the code against the definitions
 -- a conversion that fails is Binary, one with bits goes on

@@ -1,5 +1,4 @@
 -- The laws of the definitions, and what follows from them for whoever builds on this crate.
-pub mod Reading
 pub mod Components
 pub mod Nodes
 pub mod Inverse
@@ -7,6 +6,7 @@ pub mod Records
 pub mod Sheets
 pub mod Passes
 pub mod Accepted
+pub mod Sound
 pub mod Single
 pub mod Example
 pub mod Impostors

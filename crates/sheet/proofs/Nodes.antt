@@ -7,15 +7,16 @@ use native.Mathlib.Numerals.{sub-one}
 use native.Mathlib.Omega.{arith}
 use lib.ListN.{length, getD}
 use borrow.Author.Tests.{leb-true, le-leb, lt-leb, lt-ltb, le-ltb, ne-eqb}
-use Rattle.sheet.specs.declared.Seen.{Seen}
-use Rattle.sheet.specs.declared.Seen.the-variants.{Good, Refused}
+use Rattle.low.specs.declared.Seen.{Seen}
+use Rattle.low.specs.declared.Seen.the-variants.{Good, Refused}
 use Rattle.sheet.specs.declared.literals.LiteralHead.{LiteralHead}
-use Rattle.sheet.specs.Read.{Read, found, refused, must, thenRead, readAs, there, cut, seenOf}
+use Rattle.low.specs.Read.{Read, found, refused, must, thenRead, readAs, there, seenOf}
+use Rattle.sheet.specs.Node.{cut, literalHead, literalCount, literalOk, allProper, readComponents, readLiteral, readReference, operatorKnown, operands, readOperator}
 use Rattle.sheet.specs.Tree.{Expr, literal, reference, unary, binary}
-use Rattle.sheet.specs.Node.{literalHead, literalCount, literalOk, allProper, readComponents, readLiteral, readReference, operatorKnown, operands, readOperator}
 use Rattle.sheet.specs.Node.{Tag, isLiteral, isReference, isOperator, unknown, tagOf, onTag, readNode}
-use Rattle.sheet.proofs.Reading.{was-read, was-refused, seen-as, must-is}
+use Rattle.low.proofs.Reading.{was-read, was-refused, seen-as, must-is}
 use Rattle.value.specs.Refusals as No
+use Rattle.types.specs.Edition.{Edition}
 
 -- ---- what is read from a place on ends past it and within the body, and a refusal's place is in the body or just past it
 unfoldable pub Within : {A : Type 0} → List ℕ → ℕ → Read A → Type 0
@@ -50,11 +51,6 @@ within-as b at to f (refused k p) l h = h
 within-components : (h : LiteralHead) (n : ℕ) (b : List ℕ) (at : ℕ) → at ≤ length b → Within b at (readComponents h n b at)
 within-components h n b at l = within-must b at _ _ _ _ (omega arith) (λ e. within-must b at _ _ _ _ l (λ _. past b at _ _ (omega arith) (leb-true _ _ e)))
 
-pub within-literal : (setting : Bool) (b : List ℕ) (at : ℕ) → at ≤ length b → Within b at (readLiteral setting b at)
-unfolding readLiteral
-within-literal setting b at l =
-    within-must b at _ _ _ _ (omega arith) (λ _. within-must b at _ _ _ _ l (λ _. within-components (literalHead b at) (literalCount b at) b at l))
-
 within-reference : (stages : List ℕ) (own : ℕ) (b : List ℕ) (at : ℕ) → at ≤ length b → Within b at (readReference stages own b at)
 unfolding readReference
 within-reference stages own b at l =
@@ -64,76 +60,9 @@ within-reference stages own b at l =
 abbrev AllWithin : List ℕ → (ℕ → Read Expr) → Type 0
 AllWithin b below = (at : ℕ) → at ≤ length b → Within b at (below at)
 
-module _ (b : List ℕ) (below : ℕ → Read Expr) (h : AllWithin b below) (at : ℕ) where
-  within-operands : (two : Bool) (place op : ℕ) → at + 2 ≤ length b → Within b at (operands two place op below (at + 2))
-  unfolding operands
-  within-operands false place op l = within-as b (at + 2) at _ _ (omega arith) (h _ l)
-  within-operands true place op l = within-then b (at + 2) at _ _ (h _ l) (λ t n k u. within-as b n at _ _ (omega arith) (h _ u))
-
-  within-operator : (two : Bool) → at ≤ length b → Within b at (readOperator two below b at)
-  unfolding readOperator
-  within-operator two l = within-must b at _ _ _ _ (omega arith) (λ e. within-must b at _ _ _ _ l (λ _. within-operands two _ _ (leb-true _ _ e)))
-
-  within-tag : (g : Tag) (stages : List ℕ) (own : ℕ) → at ≤ length b → Within b at (onTag g below stages own b at)
-  unfolding onTag
-  within-tag isLiteral stages own l = within-as b at at _ _ (omega arith) (within-literal false b at l)
-  within-tag isReference stages own l = within-reference stages own b at l
-  within-tag (isOperator two) stages own l = within-operator two l
-  within-tag unknown stages own l = within-no b at No.BadNode at l
-
-pub within-node : (levels : ℕ) (stages : List ℕ) (own : ℕ) (b : List ℕ) → AllWithin b (readNode levels stages own b)
-unfolding readNode
-within-node zero stages own b at l = within-no b at No.TooDeep at l
-within-node (suc levels) stages own b at l =
-    within-must b at _ _ _ _ (omega arith) (λ _. within-tag b (readNode levels stages own b) (within-node levels stages own b) at _ stages own l)
-
--- where the code goes on from
-pub read-past : (levels : ℕ) (stages : List ℕ) (own : ℕ) (b : List ℕ) (at n : ℕ) → at ≤ length b → Good n ≡ seenOf (readNode levels stages own b at) → (at < n) × (n ≤ length b)
-unfolding Within
-read-past levels stages own b at n l e = rw (was-read (readNode levels stages own b at) n e .1) at (within-node levels stages own b at l)
-
--- ---- a node by its tag, where a level is left
-pub open-node : (levels : ℕ) (stages : List ℕ) (own : ℕ) (b : List ℕ) (at : ℕ) → (levels ≡ 0 → ⊥)
-    → readNode levels stages own b at ≡ must (there b at 1) (cut b) (onTag (tagOf (getD b at 0)) (readNode (levels - 1) stages own b) stages own b at)
-unfolding readNode
-open-node zero stages own b at h = absurd (h refl)
-open-node (suc levels) stages own b at h = simp (sub-one (suc levels))
-
-module _ (levels : ℕ) (stages : List ℕ) (own : ℕ) (b : List ℕ) (at : ℕ) (h : levels ≡ 0 → ⊥) where
-  pub node-cut : length b < at + 1 → readNode levels stages own b at ≡ cut b
-  unfolding must
-  node-cut l = open-node levels stages own b at h ∙ simp (lt-leb (at + 1) (length b) l)
-
-  pub node-at : at + 1 ≤ length b → (g : Tag) → tagOf (getD b at 0) ≡ g → readNode levels stages own b at ≡ onTag g (readNode (levels - 1) stages own b) stages own b at
-  unfolding must
-  node-at l g e = open-node levels stages own b at h ∙ simp (le-leb (at + 1) (length b) l, e)
-
 pub tag-unknown : (t : ℕ) → (t ≡ 1 → ⊥) → (t ≡ 2 → ⊥) → (t ≡ 3 → ⊥) → (t ≡ 4 → ⊥) → tagOf t ≡ unknown
 unfolding tagOf
 tag-unknown t z a b c = simp (ne-eqb t 1 z, ne-eqb t 2 a, ne-eqb t 3 b, ne-eqb t 4 c)
-
--- ---- a node by its tag byte, as the code sees it
-module _ (levels : ℕ) (stages : List ℕ) (own : ℕ) (b : List ℕ) (at : ℕ) (h : levels ≡ 0 → ⊥) (l : at + 1 ≤ length b) where
-  pub seen-literal : getD b at 0 ≡ 1 → seenOf (readNode levels stages own b at) ≡ seenOf (readLiteral false b at)
-  unfolding onTag tagOf
-  seen-literal q = ap seenOf (node-at levels stages own b at h l isLiteral (ap tagOf q)) ∙ seen-as literal (readLiteral false b at)
-
-  pub seen-reference : getD b at 0 ≡ 2 → seenOf (readNode levels stages own b at) ≡ seenOf (readReference stages own b at)
-  unfolding onTag tagOf
-  seen-reference q = ap seenOf (node-at levels stages own b at h l isReference (ap tagOf q))
-
-  pub seen-unary : getD b at 0 ≡ 3 → seenOf (readNode levels stages own b at) ≡ seenOf (readOperator false (readNode (levels - 1) stages own b) b at)
-  unfolding onTag tagOf
-  seen-unary q = ap seenOf (node-at levels stages own b at h l (isOperator false) (ap tagOf q))
-
-  pub seen-binary : getD b at 0 ≡ 4 → seenOf (readNode levels stages own b at) ≡ seenOf (readOperator true (readNode (levels - 1) stages own b) b at)
-  unfolding onTag tagOf
-  seen-binary q = ap seenOf (node-at levels stages own b at h l (isOperator true) (ap tagOf q))
-
-  pub seen-unknown : (getD b at 0 ≡ 1 → ⊥) → (getD b at 0 ≡ 2 → ⊥) → (getD b at 0 ≡ 3 → ⊥) → (getD b at 0 ≡ 4 → ⊥)
-      → seenOf (readNode levels stages own b at) ≡ Refused No.BadNode at
-  unfolding onTag
-  seen-unknown w x y z = ap seenOf (node-at levels stages own b at h l unknown (tag-unknown (getD b at 0) w x y z))
 
 -- ---- an operator and its operands, as the code sees them
 module _ (place op : ℕ) (below : ℕ → Read Expr) (at : ℕ) where
@@ -181,41 +110,6 @@ module _ (two : Bool) (below : ℕ → Read Expr) (b : List ℕ) (at : ℕ) wher
         pub operator-two-not : (k p : ℕ) → r ≡ Refused k p → r ≡ seenOf (readOperator two below b at)
         operator-two-not k p i = i ∙ sym (ap seenOf (by-operands true e) ∙ seen-two-not at (getD b (at + 1) 0) below (at + 2) k p (sym i ∙ h))
 
--- ---- a literal, as the code goes: h is its head, n its number of components, g and p answer the tests of its head and of its components
-module _ (setting : Bool) (b : List ℕ) (at : ℕ) where
-  pub literal-cut : length b < at + 4 → Refused No.CutShort (length b) ≡ seenOf (readLiteral setting b at)
-  unfolding readLiteral must
-  literal-cut l = simp (lt-leb (at + 4) (length b) l)
-
-  module _ (h : LiteralHead) (e : h ≡ literalHead b at) (l : at + 4 ≤ length b) (g : Bool) (ok : g ≡ literalOk setting h) where
-    by-head : readLiteral setting b at ≡ must g (refused No.BadValue at) (readComponents h (h .cols * h .rows) b at)
-    unfolding readLiteral
-    by-head =
-        must-is _ _ _ _ _ (le-leb (at + 4) (length b) l)
-        (ap (λ (x : LiteralHead). must (literalOk setting x) (refused No.BadValue at) (readComponents x (x .cols * x .rows) b at)) (sym e)
-        ∙ ap (λ (x : Bool). must x (refused No.BadValue at) (readComponents h (h .cols * h .rows) b at)) (sym ok))
-
-    pub literal-shape : g ≡ false → Refused No.BadValue at ≡ seenOf (readLiteral setting b at)
-    unfolding must
-    literal-shape f = sym (ap seenOf by-head ∙ rw f)
-
-    module _ (f : g ≡ true) (n : ℕ) (q : n ≡ h .cols * h .rows) where
-      by-components : readLiteral setting b at ≡ readComponents h n b at
-      by-components = by-head ∙ must-is _ _ _ _ _ f (ap (λ (k : ℕ). readComponents h k b at) (sym q))
-
-      pub literal-short : length b < at + 4 + 8 * n → Refused No.CutShort (length b) ≡ seenOf (readLiteral setting b at)
-      unfolding must
-      literal-short k = sym (ap seenOf by-components ∙ simp (lt-leb (at + 4 + 8 * n) (length b) k))
-
-      module _ (k : at + 4 + 8 * n ≤ length b) (p : Bool) (w : p ≡ allProper (h .ty) n b (at + 4)) where
-        pub literal-bad : p ≡ false → Refused No.BadValue at ≡ seenOf (readLiteral setting b at)
-        unfolding must
-        literal-bad z = sym (ap seenOf by-components ∙ simp (le-leb (at + 4 + 8 * n) (length b) k, ← w, z))
-
-        pub literal-good : p ≡ true → Good (at + 4 + 8 * n) ≡ seenOf (readLiteral setting b at)
-        unfolding must
-        literal-good z = sym (ap seenOf by-components ∙ simp (le-leb (at + 4 + 8 * n) (length b) k, ← w, z))
-
 -- ---- a reference, as the code goes
 module _ (stages : List ℕ) (own : ℕ) (b : List ℕ) (at : ℕ) where
   pub reference-cut : length b < at + 2 → readReference stages own b at ≡ cut b
@@ -234,3 +128,112 @@ module _ (stages : List ℕ) (own : ℕ) (b : List ℕ) (at : ℕ) where
     pub reference-good : getD b (at + 1) 0 < length stages → getD stages (getD b (at + 1) 0) 0 ≤ own → readReference stages own b at ≡ found (reference (getD b (at + 1) 0)) (at + 2)
     unfolding readReference must
     reference-good h k = simp (le-leb (at + 2) (length b) l, lt-ltb _ _ h, le-leb _ _ k)
+
+module _ (ed : Edition) where
+  pub within-literal : (setting : Bool) (b : List ℕ) (at : ℕ) → at ≤ length b → Within b at (readLiteral ed setting b at)
+  unfolding readLiteral
+  within-literal setting b at l =
+      within-must b at _ _ _ _ (omega arith) (λ _. within-must b at _ _ _ _ l (λ _. within-components (literalHead b at) (literalCount b at) b at l))
+
+  module _ (b : List ℕ) (below : ℕ → Read Expr) (h : AllWithin b below) (at : ℕ) where
+    within-operands : (two : Bool) (place op : ℕ) → at + 2 ≤ length b → Within b at (operands two place op below (at + 2))
+    unfolding operands
+    within-operands false place op l = within-as b (at + 2) at _ _ (omega arith) (h _ l)
+    within-operands true place op l = within-then b (at + 2) at _ _ (h _ l) (λ t n k u. within-as b n at _ _ (omega arith) (h _ u))
+
+    within-operator : (two : Bool) → at ≤ length b → Within b at (readOperator two below b at)
+    unfolding readOperator
+    within-operator two l = within-must b at _ _ _ _ (omega arith) (λ e. within-must b at _ _ _ _ l (λ _. within-operands two _ _ (leb-true _ _ e)))
+
+    within-tag : (g : Tag) (stages : List ℕ) (own : ℕ) → at ≤ length b → Within b at (onTag ed g below stages own b at)
+    unfolding onTag
+    within-tag isLiteral stages own l = within-as b at at _ _ (omega arith) (within-literal false b at l)
+    within-tag isReference stages own l = within-reference stages own b at l
+    within-tag (isOperator two) stages own l = within-operator two l
+    within-tag unknown stages own l = within-no b at No.BadNode at l
+
+  pub within-node : (levels : ℕ) (stages : List ℕ) (own : ℕ) (b : List ℕ) → AllWithin b (readNode ed levels stages own b)
+  unfolding readNode
+  within-node zero stages own b at l = within-no b at No.TooDeep at l
+  within-node (suc levels) stages own b at l =
+      within-must b at _ _ _ _ (omega arith) (λ _. within-tag b (readNode ed levels stages own b) (within-node levels stages own b) at _ stages own l)
+
+  -- where the code goes on from
+  pub read-past : (levels : ℕ) (stages : List ℕ) (own : ℕ) (b : List ℕ) (at n : ℕ) → at ≤ length b → Good n ≡ seenOf (readNode ed levels stages own b at)
+      → (at < n) × (n ≤ length b)
+  unfolding Within
+  read-past levels stages own b at n l e = rw (was-read (readNode ed levels stages own b at) n e .1) at (within-node levels stages own b at l)
+
+  -- ---- a node by its tag, where a level is left
+  pub open-node : (levels : ℕ) (stages : List ℕ) (own : ℕ) (b : List ℕ) (at : ℕ) → (levels ≡ 0 → ⊥)
+      → readNode ed levels stages own b at ≡ must (there b at 1) (cut b) (onTag ed (tagOf (getD b at 0)) (readNode ed (levels - 1) stages own b) stages own b at)
+  unfolding readNode
+  open-node zero stages own b at h = absurd (h refl)
+  open-node (suc levels) stages own b at h = simp (sub-one (suc levels))
+
+  module _ (levels : ℕ) (stages : List ℕ) (own : ℕ) (b : List ℕ) (at : ℕ) (h : levels ≡ 0 → ⊥) where
+    pub node-cut : length b < at + 1 → readNode ed levels stages own b at ≡ cut b
+    unfolding must
+    node-cut l = open-node levels stages own b at h ∙ simp (lt-leb (at + 1) (length b) l)
+
+    pub node-at : at + 1 ≤ length b → (g : Tag) → tagOf (getD b at 0) ≡ g → readNode ed levels stages own b at ≡ onTag ed g (readNode ed (levels - 1) stages own b) stages own b at
+    unfolding must
+    node-at l g e = open-node levels stages own b at h ∙ simp (le-leb (at + 1) (length b) l, e)
+
+  -- ---- a node by its tag byte, as the code sees it
+  module _ (levels : ℕ) (stages : List ℕ) (own : ℕ) (b : List ℕ) (at : ℕ) (h : levels ≡ 0 → ⊥) (l : at + 1 ≤ length b) where
+    pub seen-literal : getD b at 0 ≡ 1 → seenOf (readNode ed levels stages own b at) ≡ seenOf (readLiteral ed false b at)
+    unfolding onTag tagOf
+    seen-literal q = ap seenOf (node-at levels stages own b at h l isLiteral (ap tagOf q)) ∙ seen-as literal (readLiteral ed false b at)
+
+    pub seen-reference : getD b at 0 ≡ 2 → seenOf (readNode ed levels stages own b at) ≡ seenOf (readReference stages own b at)
+    unfolding onTag tagOf
+    seen-reference q = ap seenOf (node-at levels stages own b at h l isReference (ap tagOf q))
+
+    pub seen-unary : getD b at 0 ≡ 3 → seenOf (readNode ed levels stages own b at) ≡ seenOf (readOperator false (readNode ed (levels - 1) stages own b) b at)
+    unfolding onTag tagOf
+    seen-unary q = ap seenOf (node-at levels stages own b at h l (isOperator false) (ap tagOf q))
+
+    pub seen-binary : getD b at 0 ≡ 4 → seenOf (readNode ed levels stages own b at) ≡ seenOf (readOperator true (readNode ed (levels - 1) stages own b) b at)
+    unfolding onTag tagOf
+    seen-binary q = ap seenOf (node-at levels stages own b at h l (isOperator true) (ap tagOf q))
+
+    pub seen-unknown : (getD b at 0 ≡ 1 → ⊥) → (getD b at 0 ≡ 2 → ⊥) → (getD b at 0 ≡ 3 → ⊥) → (getD b at 0 ≡ 4 → ⊥)
+        → seenOf (readNode ed levels stages own b at) ≡ Refused No.BadNode at
+    unfolding onTag
+    seen-unknown w x y z = ap seenOf (node-at levels stages own b at h l unknown (tag-unknown (getD b at 0) w x y z))
+
+  -- ---- a literal, as the code goes: h is its head, n its number of components, g and p answer the tests of its head and of its components
+  module _ (setting : Bool) (b : List ℕ) (at : ℕ) where
+    pub literal-cut : length b < at + 4 → Refused No.CutShort (length b) ≡ seenOf (readLiteral ed setting b at)
+    unfolding readLiteral must
+    literal-cut l = simp (lt-leb (at + 4) (length b) l)
+
+    module _ (h : LiteralHead) (e : h ≡ literalHead b at) (l : at + 4 ≤ length b) (g : Bool) (ok : g ≡ literalOk ed setting h) where
+      by-head : readLiteral ed setting b at ≡ must g (refused No.BadValue at) (readComponents h (h .cols * h .rows) b at)
+      unfolding readLiteral
+      by-head =
+          must-is _ _ _ _ _ (le-leb (at + 4) (length b) l)
+          (ap (λ (x : LiteralHead). must (literalOk ed setting x) (refused No.BadValue at) (readComponents x (x .cols * x .rows) b at)) (sym e)
+          ∙ ap (λ (x : Bool). must x (refused No.BadValue at) (readComponents h (h .cols * h .rows) b at)) (sym ok))
+
+      pub literal-shape : g ≡ false → Refused No.BadValue at ≡ seenOf (readLiteral ed setting b at)
+      unfolding must
+      literal-shape f = sym (ap seenOf by-head ∙ rw f)
+
+      module _ (f : g ≡ true) (n : ℕ) (q : n ≡ h .cols * h .rows) where
+        by-components : readLiteral ed setting b at ≡ readComponents h n b at
+        by-components = by-head ∙ must-is _ _ _ _ _ f (ap (λ (k : ℕ). readComponents h k b at) (sym q))
+
+        pub literal-short : length b < at + 4 + 8 * n → Refused No.CutShort (length b) ≡ seenOf (readLiteral ed setting b at)
+        unfolding must
+        literal-short k = sym (ap seenOf by-components ∙ simp (lt-leb (at + 4 + 8 * n) (length b) k))
+
+        module _ (k : at + 4 + 8 * n ≤ length b) (p : Bool) (w : p ≡ allProper (h .ty) n b (at + 4)) where
+          pub literal-bad : p ≡ false → Refused No.BadValue at ≡ seenOf (readLiteral ed setting b at)
+          unfolding must
+          literal-bad z = sym (ap seenOf by-components ∙ simp (le-leb (at + 4 + 8 * n) (length b) k, ← w, z))
+
+          pub literal-good : p ≡ true → Good (at + 4 + 8 * n) ≡ seenOf (readLiteral ed setting b at)
+          unfolding must
+          literal-good z = sym (ap seenOf by-components ∙ simp (le-leb (at + 4 + 8 * n) (length b) k, ← w, z))

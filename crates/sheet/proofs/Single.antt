@@ -1,11 +1,14 @@
 -- Each public contract permits one outcome for each call: any two results that it allows coincide.
 use mathlib.Core.Path.{_≡_, sym, _∙_}
-use mathlib.Core.List.{List}
-use Prim.Native.Nat.{ℕ}
 use contract.Lifetimes.{Lfts}
-use denote.Ref.{now}
+use denote.Ref.{ptr, now}
 use denote.Triple.Clauses.{AtExit}
-use borrow.Fn.Kinds.{PK, RK, Out, Dens, resT, endedOf}
+use borrow.Fn.Kinds.{Dens, resT, endedOf}
+use Rattle.integer.proofs.Single.{OneResult}
+use Rattle.low.proofs.Single.{part-same}
+use Rattle.sheet.specs.Accepted.{NamesMarked}
+use Rattle.sheet.proofs.stage.kind_of.Kinds as kind-of-kinds
+use Rattle.sheet.proofs.stage.kind_of.Reads as kind-of-reads
 use Rattle.sheet.proofs.check.Kinds as check-kinds
 use Rattle.sheet.proofs.check.Reads as check-reads
 use Rattle.sheet.proofs.record.read_head.Kinds as read-head-kinds
@@ -17,10 +20,6 @@ use Rattle.sheet.proofs.literals.literal_at.Reads as literal-at-reads
 use Rattle.sheet.proofs.names.names_marked.Kinds as names-marked-kinds
 use Rattle.sheet.proofs.names.names_marked.Reads as names-marked-reads
 
--- what a function may ensure leaves one result for each call
-abbrev pub OneResult : (n : ℕ) (ps : List (PK n)) (r : RK n) → Out n ps r → Type 0
-OneResult n ps r P = (κs : Lfts n) (a : Dens κs ps) (x y : resT r κs .Denot) (s t : AtExit (endedOf n ps r) κs) → P κs a x s → P κs a y t → x ≡ y
-
 pub check-one : OneResult 1 check-kinds.ps check-kinds.r check-reads.Post
 check-one κs a x y s t p q = p ∙ sym q
 
@@ -30,10 +29,16 @@ read-head-one κs a x y s t p q = p ∙ sym q
 pub literal-at-one : OneResult 1 literal-at-kinds.ps literal-at-kinds.r literal-at-reads.Post
 literal-at-one κs a x y s t p q = p ∙ sym q
 
-pub names-marked-one : OneResult 2 names-marked-kinds.ps names-marked-kinds.r names-marked-reads.Post
-names-marked-one κs a x y s t p q = p ∙ sym q
+pub kind-of-one : OneResult 0 kind-of-kinds.ps kind-of-kinds.r kind-of-reads.Post
+kind-of-one κs a x y s t p q = p ∙ sym q
 
--- of a part that is handed back, its bytes
+-- of a body that was accepted, as the call asks
+pub names-marked-one : (κs : Lfts 2) (a : Dens κs names-marked-kinds.ps) (x y : resT names-marked-kinds.r κs .Denot) (s t : AtExit (endedOf 2 names-marked-kinds.ps names-marked-kinds.r) κs)
+    → names-marked-reads.Pre κs a → names-marked-reads.Post κs a x s → names-marked-reads.Post κs a y t → x ≡ y
+unfolding NamesMarked
+names-marked-one κs a x y s t r p q = p (r .entry) (r .body) ∙ sym (q (r .entry) (r .body))
+
+-- of a part that is handed back, its bytes and its place
 pub body-one : (κs : Lfts 1) (a : Dens κs body-kinds.ps) (x y : resT body-kinds.r κs .Denot) (s t : AtExit (endedOf 1 body-kinds.ps body-kinds.r) κs)
-    → body-reads.Post κs a x s → body-reads.Post κs a y t → now x ≡ now y
-body-one κs a x y s t p q = p ∙ sym q
+    → body-reads.Post κs a x s → body-reads.Post κs a y t → (now x ≡ now y) × (ptr x .0 ≡ ptr y .0) × (ptr x .1 ≡ ptr y .1)
+body-one κs a x y s t p q = part-same _ _ _ x y p q

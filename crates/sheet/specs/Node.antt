@@ -1,33 +1,32 @@
 -- One node of a body and the checks of it, in their order. Places are counted from the body's first byte.
 use Prim.Native.Nat.{ℕ, zero, suc, _+_, _*_, _-_}
-use mathlib.Core.List.{List, [], _∷_, _++_}
+use mathlib.Core.List.{List, [], _∷_, _++_, map}
 use mathlib.Core.Bool.{Bool, true, false, _&&_, _||_, not}
 use lib.ListN.{length, getD, replicate}
 use lib.Dec.{ltb, leb, eqb}
 use Rattle.types.specs.Types.{concreteOf}
+use Rattle.low.specs.Bytes.{numbers}
+use Rattle.low.specs.Read.{Read, found, refused, must, thenRead, readAs, there}
+use Rattle.types.specs.Edition.{Edition}
 use Rattle.value.specs.Pattern.{pick, properOf, keptOf}
 use Rattle.value.specs.Refusals as No
 use Rattle.operand.specs.declared.Instance.{Instance}
-use Rattle.operand.specs.Operand.{shapeOk}
+use Rattle.operand.specs.Operand.{shapeIn, every}
 use Rattle.sheet.specs.declared.Literal.{Literal}
 use Rattle.sheet.specs.declared.literals.LiteralHead.{LiteralHead}
-use Rattle.sheet.specs.Read.{Read, found, refused, must, thenRead, readAs, there, cut}
-use Rattle.sheet.specs.Tree.{Expr, literal, reference, unary, binary, names}
+use Rattle.sheet.specs.Tree.{Expr, literal, reference, unary, binary}
 
--- k bytes from a place on, low byte first
-abbrev pub leWord : ℕ → List ℕ → ℕ → ℕ
-leWord zero b at = 0
-leWord (suc k) b at = getD b at 0 + 256 * leWord k b (at + 1)
+-- CutShort: its place is the first missing byte, the one past the end
+abbrev pub cut : {A : Type 0} → List ℕ → Read A
+cut b = refused No.CutShort (length b)
 
 -- n components from a place on, 8 bytes each, are patterns of the type
 unfoldable pub allProper : ℕ → ℕ → List ℕ → ℕ → Bool
-allProper ty zero b at = true
-allProper ty (suc n) b at = pick (properOf ty (leWord 8 b at)) (allProper ty n b (at + 8)) false
+allProper ty n b at = every (properOf ty) (numbers n b at)
 
 -- n components from a place on; a NaN read is kept as its type's one NaN
 unfoldable pub components : ℕ → ℕ → List ℕ → ℕ → List ℕ
-components ty zero b at = []
-components ty (suc n) b at = keptOf ty (leWord 8 b at) ∷ components ty n b (at + 8)
+components ty n b at = map (keptOf ty) (numbers n b at)
 
 -- a literal's type, columns and rows, and how many components it has
 abbrev pub literalHead : List ℕ → ℕ → LiteralHead
@@ -44,9 +43,9 @@ literalEnd b at = at + 4 + 8 * literalCount b at
 abbrev pub valueAt : ℕ → ℕ → ℕ → ℕ → List ℕ → ℕ → Instance
 valueAt ty cols rows n b at = record { ty = ty; cols = cols; rows = rows; comps = components ty n b at ++ replicate (16 - n) 0 }
 
--- a literal's type and shape; a setting's is a scalar of type 0, 3, 4, 5 or 6: a concrete one
-abbrev pub literalOk : Bool → LiteralHead → Bool
-literalOk setting h = shapeOk (h .ty) (h .cols) (h .rows) && (not setting || (concreteOf (h .ty) && eqb (h .cols) 1 && eqb (h .rows) 1))
+-- a literal's type, one of the edition's, and shape; a setting's is a scalar of type 0, 3, 4, 5 or 6: a concrete one
+abbrev pub literalOk : Edition → Bool → LiteralHead → Bool
+literalOk e setting h = shapeIn e (h .ty) (h .cols) (h .rows) && (not setting || (concreteOf (h .ty) && eqb (h .cols) 1 && eqb (h .rows) 1))
 
 -- the n components of a literal, after its head: all there, and patterns of its type
 abbrev pub readComponents : LiteralHead → ℕ → List ℕ → ℕ → Read Instance
@@ -56,10 +55,10 @@ readComponents h n b at =
     (found (valueAt (h .ty) (h .cols) (h .rows) n b (at + 4)) (at + 4 + 8 * n)))
 
 -- 01, type, columns, rows, components: type and shape are judged before the components are looked for
-unfoldable pub readLiteral : Bool → List ℕ → ℕ → Read Instance
-readLiteral setting b at =
+unfoldable pub readLiteral : Edition → Bool → List ℕ → ℕ → Read Instance
+readLiteral e setting b at =
     must (there b at 4) (cut b)
-    (must (literalOk setting (literalHead b at)) (refused No.BadValue at)
+    (must (literalOk e setting (literalHead b at)) (refused No.BadValue at)
     (readComponents (literalHead b at) (literalCount b at) b at))
 
 -- 02, number of an earlier entry, whose stage is not above this one's
@@ -96,32 +95,23 @@ pub data Tag : Type 0 where
 unfoldable pub tagOf : ℕ → Tag
 tagOf t = pick (eqb t 1) isLiteral (pick (eqb t 2) isReference (pick (eqb t 3) (isOperator false) (pick (eqb t 4) (isOperator true) unknown)))
 
-unfoldable pub onTag : Tag → (ℕ → Read Expr) → List ℕ → ℕ → List ℕ → ℕ → Read Expr
-onTag isLiteral below stages own b at = readAs literal (readLiteral false b at)
-onTag isReference below stages own b at = readReference stages own b at
-onTag (isOperator two) below stages own b at = readOperator two below b at
-onTag unknown below stages own b at = refused No.BadNode at
+unfoldable pub onTag : Edition → Tag → (ℕ → Read Expr) → List ℕ → ℕ → List ℕ → ℕ → Read Expr
+onTag e isLiteral below stages own b at = readAs literal (readLiteral e false b at)
+onTag e isReference below stages own b at = readReference stages own b at
+onTag e (isOperator two) below stages own b at = readOperator two below b at
+onTag e unknown below stages own b at = refused No.BadNode at
 
--- one node, where so many levels are left: depth, tag byte there, tag known, and what its tag asks
-unfoldable pub readNode : ℕ → List ℕ → ℕ → List ℕ → ℕ → Read Expr
-readNode zero stages own b at = refused No.TooDeep at
-readNode (suc levels) stages own b at =
+-- one node of a sheet of this edition, where so many levels are left: depth, tag byte there, tag known, and what its tag asks
+unfoldable pub readNode : Edition → ℕ → List ℕ → ℕ → List ℕ → ℕ → Read Expr
+readNode e zero stages own b at = refused No.TooDeep at
+readNode e (suc levels) stages own b at =
     must (there b at 1) (cut b)
-    (onTag (tagOf (getD b at 0)) (readNode levels stages own b) stages own b at)
+    (onTag e (tagOf (getD b at 0)) (readNode e levels stages own b) stages own b at)
 
 -- the literal at a place and the place after it; zeros where none can be read
 unfoldable pub literalIn : Read Instance → Literal
 literalIn (found v n) = record { value = v; next = n }
 literalIn (refused k p) = record { value = record { ty = 0; cols = 0; rows = 0; comps = replicate 16 0 }; next = 0 }
-
--- the entries that were read in an expression; none where none was read
-unfoldable pub namesRead : Read Expr → List ℕ
-namesRead (found t n) = names t
-namesRead (refused k p) = []
-
--- the entries that the expression in a body names, whichever of the 128 they are
-unfoldable pub namesIn : List ℕ → List ℕ
-namesIn b = namesRead (readNode 32 (replicate 128 0) 2 b 0)
 
 -- whether one of some entries is marked
 unfoldable pub anyMarked : List Bool → List ℕ → Bool

@@ -1,8 +1,8 @@
 // A literal node: type, columns, rows and components.
 use crate::Literal;
-use crate::Seen;
-use crate::bytes::remaining;
-use crate::bytes::word_at;
+use low::Seen;
+use low::get64;
+use low::remaining;
 use operand::Instance;
 use value::refusals;
 ghost use mathlib.Core.Path.{_≡_};
@@ -10,8 +10,10 @@ ghost use mathlib.Core.Bool.{false};
 ghost use mathlib.Core.List.{_++_};
 ghost use Prim.Native.Nat.{_+_, _*_, _-_, _<_, _≤_};
 ghost use lib.ListN.{length, replicate};
-ghost use Rattle.sheet.specs.Read.{seenOf};
+ghost use Rattle.low.specs.Read.{seenOf};
+ghost use Rattle.types.specs.Edition.{plain};
 ghost use Rattle.sheet.specs.Node.{literalHead, allProper, components, literalOk, readLiteral, literalIn};
+ghost use Rattle.sheet.specs.Accepted.{LiteralAt};
 
 // The three bytes after a literal's tag: its type, columns and rows.
 pub(crate) struct LiteralHead {
@@ -29,7 +31,7 @@ pub(crate) fn area(cols: u8, rows: u8) -> usize
 
 // Whether a literal may have this type and shape; a setting's are fewer.
 fn literal_ok(setting: bool, h: LiteralHead) -> bool
-    ensures { λ r. ⌜ r ≡ literalOk setting h ⌝ }
+    ensures { λ r. ⌜ r ≡ literalOk plain setting h ⌝ }
 {
     operand::shape_ok(h.ty, h.cols, h.rows)
         & (!setting | types::concrete(h.ty) & (h.cols == 1) & (h.rows == 1))
@@ -55,7 +57,7 @@ fn all_proper(b: &[u8], at: usize, n: usize, ty: u8) -> bool
     let mut p = at;
     let mut more = n;
     while 0 < more {
-        let w = word_at(b, p);
+        let w = get64(b, p);
         if !value::proper(ty, w) {
             return false;
         }
@@ -67,7 +69,7 @@ fn all_proper(b: &[u8], at: usize, n: usize, ty: u8) -> bool
 
 // Judges the literal node at a place, as a setting's or as any.
 pub(crate) fn read_literal(b: &[u8], at: usize, setting: bool) -> Seen
-    ensures { λ r. ⌜ r ≡ seenOf (readLiteral setting (now (b .entry)) at) ⌝ }
+    ensures { λ r. ⌜ r ≡ seenOf (readLiteral plain setting (now (b .entry)) at) ⌝ }
 {
     if remaining(b, at) < 4 {
         return Seen::Refused(refusals::CUT_SHORT, b.len());
@@ -94,29 +96,20 @@ fn load(b: &[u8], at: usize, n: usize, ty: u8) -> [u64; 16]
     let mut out = [0u64; 16];
     let mut i: usize = 0;
     while i < n {
-        out[i] = value::kept(ty, word_at(b, at + 8 * i));
+        out[i] = value::kept(ty, get64(b, at + 8 * i));
         i += 1;
     }
     out
 }
 
-// The value of the literal at a place and the place after it, or zeros where none can be read.
+// The value of the literal at a place and the place after it. It was accepted, so nothing is judged again.
 pub fn literal_at(b: &[u8], at: usize) -> Literal
-    ensures { λ r. ⌜ r ≡ literalIn (readLiteral false (now (b .entry)) at) ⌝ }
+    requires { ⌜ LiteralAt plain (now b) at ⌝ }
+    ensures { λ r. ⌜ r ≡ literalIn (readLiteral plain false (now (b .entry)) at) ⌝ }
 {
-    let Seen::Good(next) = read_literal(b, at, false) else {
-        return Literal {
-            value: Instance {
-                ty: 0,
-                cols: 0,
-                rows: 0,
-                comps: [0u64; 16],
-            },
-            next: 0,
-        };
-    };
     let h = literal_head(b, at);
-    let comps = load(b, at + 4, area(h.cols, h.rows), h.ty);
+    let n = area(h.cols, h.rows);
+    let comps = load(b, at + 4, n, h.ty);
     Literal {
         value: Instance {
             ty: h.ty,
@@ -124,6 +117,6 @@ pub fn literal_at(b: &[u8], at: usize) -> Literal
             rows: h.rows,
             comps,
         },
-        next,
+        next: at + 4 + 8 * n,
     }
 }

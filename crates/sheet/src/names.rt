@@ -1,16 +1,16 @@
 // Which entries a body names, by its bytes: one pass over its nodes, which stand in prefix order.
-use crate::Seen;
+use crate::Kind;
 use crate::literals::area;
-use crate::node::read_node;
+use crate::stage::kind_of;
 ghost use mathlib.Core.Path.{_≡_};
 ghost use mathlib.Core.Bool.{false};
 ghost use Prim.Native.Nat.{_+_, _<_, _≤_};
 ghost use lib.Dec.{eqb};
-ghost use lib.ListN.{length, getD, replicate};
+ghost use lib.ListN.{length, getD};
+ghost use Rattle.types.specs.Edition.{plain};
 ghost use Rattle.value.specs.Pattern.{pick};
-ghost use Rattle.sheet.specs.declared.Seen.the-variants.{Good};
-ghost use Rattle.sheet.specs.Read.{seenOf};
-ghost use Rattle.sheet.specs.Node.{literalEnd, readNode, namesIn, anyMarked};
+ghost use Rattle.sheet.specs.Node.{literalEnd};
+ghost use Rattle.sheet.specs.Accepted.{Bodied, NamesMarked, Filled, TreeMarked};
 
 // Whether the node at a place is a reference to a marked entry.
 fn marked_at(b: &[u8], at: usize, marks: &[bool; 128]) -> bool
@@ -35,13 +35,13 @@ fn after(b: &[u8], at: usize) -> usize
     at + 2
 }
 
-// Whether one of the nodes from the first to the expression's end is a reference to a marked entry.
-fn scan(b: &[u8], end: usize, marks: &[bool; 128]) -> bool
-    requires { ⌜ Good end ≡ seenOf (readNode 32 (replicate 128 0) 2 (now b) 0) ⌝ }
-    ensures { λ r. ⌜ r ≡ anyMarked (now (marks .entry)) (namesIn (now (b .entry))) ⌝ }
+// Whether one of the nodes of an expression that fills a body is a reference to a marked entry.
+fn scan(b: &[u8], marks: &[bool; 128]) -> bool
+    requires { ⌜ Filled plain (now b) ⌝ }
+    ensures { λ r. ⌜ TreeMarked plain (now (b .entry)) (now (marks .entry)) r ⌝ }
 {
     let mut at: usize = 0;
-    while at < end {
+    while at < b.len() {
         if marked_at(b, at, marks) {
             return true;
         }
@@ -50,13 +50,13 @@ fn scan(b: &[u8], end: usize, marks: &[bool; 128]) -> bool
     false
 }
 
-// Whether the expression in a body names a marked entry; it names none where no expression can be read.
-pub fn names_marked(b: &[u8], marks: &[bool; 128]) -> bool
-    ensures { λ r. ⌜ r ≡ anyMarked (now (marks .entry)) (namesIn (now (b .entry))) ⌝ }
+// Whether the entry of an accepted body with this stage byte names a marked entry; a setting names none.
+pub fn names_marked(b: &[u8], stage: u8, marks: &[bool; 128]) -> bool
+    requires { ⌜ Bodied plain stage (now b) ⌝ }
+    ensures { λ r. ⌜ NamesMarked plain stage (now (b .entry)) (now (marks .entry)) r ⌝ }
 {
-    let stages = [0u8; 128];
-    let Seen::Good(end) = read_node(b, &stages[..], 2, 0, 32) else {
-        return false;
-    };
-    scan(b, end, marks)
+    match kind_of(stage) {
+        Kind::Setting => false,
+        Kind::Expression => scan(b, marks),
+    }
 }

@@ -1,10 +1,11 @@
 // The nodes of a body: a node reads its operands, and they read their nodes.
-use crate::Seen;
-use crate::bytes::remaining;
 use crate::literals::read_literal;
+use low::Seen;
+use low::remaining;
 use value::refusals;
 ghost use mathlib.Core.Path.{_≡_};
-ghost use Rattle.sheet.specs.Read.{seenOf};
+ghost use Rattle.low.specs.Read.{seenOf};
+ghost use Rattle.types.specs.Edition.{plain};
 ghost use Rattle.sheet.specs.Node.{operatorKnown, readReference, readOperator, readNode};
 
 // Whether an operator code is known, before one operand or two.
@@ -33,7 +34,7 @@ fn read_reference(b: &[u8], stages: &[u8], own: u8, at: usize) -> Seen
 
 // Judges the node at a place and all below it, where so many levels are left.
 pub(crate) fn read_node(b: &[u8], stages: &[u8], own: u8, at: usize, levels: usize) -> Seen
-    ensures { λ r. ⌜ r ≡ seenOf (readNode levels (now (stages .entry)) own (now (b .entry)) at) ⌝ }
+    ensures { λ r. ⌜ r ≡ seenOf (readNode plain levels (now (stages .entry)) own (now (b .entry)) at) ⌝ }
 {
     if levels == 0 {
         return Seen::Refused(refusals::TOO_DEEP, at);
@@ -53,7 +54,7 @@ pub(crate) fn read_node(b: &[u8], stages: &[u8], own: u8, at: usize, levels: usi
 
 // Judges the operator of the node at a place and its operands, left before right.
 fn read_operands(b: &[u8], stages: &[u8], own: u8, at: usize, levels: usize, two: bool) -> Seen
-    ensures { λ r. ⌜ r ≡ seenOf (readOperator two (readNode levels (now (stages .entry)) own (now (b .entry))) (now (b .entry)) at) ⌝ }
+    ensures { λ r. ⌜ r ≡ seenOf (readOperator two (readNode plain levels (now (stages .entry)) own (now (b .entry))) (now (b .entry)) at) ⌝ }
 {
     if remaining(b, at) < 2 {
         return Seen::Refused(refusals::CUT_SHORT, b.len());

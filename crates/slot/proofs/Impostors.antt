@@ -4,11 +4,12 @@ use mathlib.Core.Bool.{true, false}
 use mathlib.Core.List.{List, [], _∷_, _++_, map}
 use Prim.Native.Nat.{ℕ}
 use lib.ListN.{getD, replicate}
+use Rattle.types.specs.Edition.{plain}
 use Rattle.value.specs.Pattern.{keptOf}
 use Rattle.operand.specs.declared.Outcome.{Outcome}
 use Rattle.operand.specs.Outcome.{refusedWith}
-use Rattle.slot.specs.Bytes.{lows, whole, part, patch}
-use Rattle.slot.specs.Slot.{eights, numbers, bytesOf, saidBy, slot, put, each, componentFormed, componentsFormed, valueFormed, blank, formed, wellFormed, referenceTo}
+use Rattle.low.specs.Bytes.{lows, whole, part, patch, eights, numbers}
+use Rattle.slot.specs.Slot.{bytesOf, saidBy, slot, put, each, componentFormed, componentsFormed, valueFormed, blank, formed, wellFormed, referenceTo}
 
 -- a value of this type, columns and rows with these components first
 abbrev holding : ℕ → ℕ → ℕ → List ℕ → Outcome
@@ -29,7 +30,7 @@ unfolding lows eights bytesOf patch put
 put-kept = (refl, refl)
 
 -- not well formed: FromEntry of entry 128, an unused component, a NaN that is not the kept one; but FromEntry of entry 127 and the kept NaN are
-pub formed-answers : map formed (
+pub formed-answers : map (formed plain) (
     refusedWith 11 128
     ∷ holding 4 1 1 (1 ∷ 1 ∷ [])
     ∷ holding 5 1 1 (2143289345 ∷ 0 ∷ [])
@@ -41,6 +42,6 @@ unfolding keptOf each componentFormed componentsFormed valueFormed blank formed
 formed-answers = refl
 
 -- FromEntry has the entry that is named, not the detail of its slot
-pub reference-names : referenceTo (bytesOf (refusedWith 9 32)) 0 ≡ refusedWith 11 0
+pub reference-names : referenceTo plain (bytesOf (refusedWith 9 32)) 0 ≡ refusedWith 11 0
 unfolding lows whole part eights numbers bytesOf saidBy slot each componentFormed componentsFormed valueFormed blank formed wellFormed referenceTo
 reference-names = refl

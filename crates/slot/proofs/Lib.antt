@@ -1,5 +1,3 @@
-pub mod Parts
-pub mod Lows
 pub mod Slots
 pub mod Tests
 pub mod Written

@@ -1,10 +1,9 @@
 -- Each public contract leaves one outcome for each call: the answer, and the bytes that are lent.
 use mathlib.Core.Path.{_≡_, sym, _∙_}
-use mathlib.Core.List.{List}
-use Prim.Native.Nat.{ℕ}
 use contract.Lifetimes.{Lfts}
 use denote.Triple.Clauses.{AtExit}
-use borrow.Fn.Kinds.{PK, RK, Out, Dens, resT, endedOf}
+use borrow.Fn.Kinds.{Dens, resT, endedOf}
+use Rattle.integer.proofs.Single.{OneResult}
 use Rattle.slot.proofs.read.Kinds as read-kinds
 use Rattle.slot.proofs.read.Reads as read-reads
 use Rattle.slot.proofs.put.Kinds as put-kinds
@@ -14,17 +13,13 @@ use Rattle.slot.proofs.well_formed.Reads as well-formed-reads
 use Rattle.slot.proofs.reference.Kinds as reference-kinds
 use Rattle.slot.proofs.reference.Reads as reference-reads
 
--- what is ensured leaves one answer for each call
-abbrev pub OneAnswer : (n : ℕ) (ps : List (PK n)) (r : RK n) → Out n ps r → Type 0
-OneAnswer n ps r P = (κs : Lfts n) (a : Dens κs ps) (x y : resT r κs .Denot) (s t : AtExit (endedOf n ps r) κs) → P κs a x s → P κs a y t → x ≡ y
-
-pub read-one : OneAnswer 1 read-kinds.ps read-kinds.r read-reads.Post
+pub read-one : OneResult 1 read-kinds.ps read-kinds.r read-reads.Post
 read-one κs a x y s t p q = p ∙ sym q
 
-pub well-formed-one : OneAnswer 1 well-formed-kinds.ps well-formed-kinds.r well-formed-reads.Post
+pub well-formed-one : OneResult 1 well-formed-kinds.ps well-formed-kinds.r well-formed-reads.Post
 well-formed-one κs a x y s t p q = p ∙ sym q
 
-pub reference-one : OneAnswer 1 reference-kinds.ps reference-kinds.r reference-reads.Post
+pub reference-one : OneResult 1 reference-kinds.ps reference-kinds.r reference-reads.Post
 reference-one κs a x y s t p q = p ∙ sym q
 
 pub put-one : (κs : Lfts 1) (a : Dens κs put-kinds.ps) (x y : resT put-kinds.r κs .Denot) (s t : AtExit (endedOf 1 put-kinds.ps put-kinds.r) κs)

@@ -1,91 +1,20 @@
 -- Laws of slots: what is put is read back, other slots stay, and buffers with equal slots are equal.
 use mathlib.Core.Path.{_≡_, refl, sym, ap, _∙_}
-use mathlib.Core.List.{List, [], _∷_, _++_, append-assoc, append-nil}
+use mathlib.Core.List.{List, [], _∷_, _++_}
 use mathlib.Core.Logic.{⊎-elim, _≢_}
-use Prim.Native.Nat.{ℕ, zero, suc, _+_, _-_, _*_, _/_, _%_, _^_, _≤_, _<_}
+use Prim.Native.Nat.{ℕ, suc, _+_, _-_, _*_, _/_, _%_, _^_, _≤_, _<_}
 use native.Mathlib.Omega.{arith}
-use native.Mathlib.Numerals.{add-one}
-use native.Mathlib.Nat.{le-antisymm}
-use lib.ListN.{length, take, drop, getD, set, replicate, length-append}
-use lib.Seq.{take-at, drop-at, set-at, ext-getD, getD-drop}
+use lib.ListN.{length, take, drop, getD, set, length-append}
+use lib.Seq.{take-at, ext-getD}
 use borrow.Author.Tests.{lt-ltb, le-ltb}
 use Rattle.operand.specs.declared.Outcome.{Outcome}
 use Rattle.operand.specs.Outcome.{refusedWith}
-use Rattle.slot.specs.Bytes.{lows, whole, part, patch}
-use Rattle.slot.specs.Slot.{eights, numbers, bytesOf, saidBy, slot, put}
-use Rattle.slot.proofs.Parts.{le-or-lt, length-patch, at-part, part-patch, part-patch-before, part-patch-after, patch-next, patch-all, stores4, lent-back}
-use Rattle.slot.proofs.Lows.{lows-long, whole-lows}
-
--- ---- numbers of 8 bytes each
-pub eights-long : (n : ℕ) (xs : List ℕ) → length (eights n xs) ≡ 8 * n
-unfolding eights
-eights-long zero xs = refl
-eights-long (suc n) xs = omega (arith, length-append (lows 8 (getD xs 0 0)) (eights n (drop 1 xs)), lows-long 8 (getD xs 0 0), eights-long n (drop 1 xs))
-
-eights-snoc : (n : ℕ) (xs : List ℕ) → eights n xs ++ lows 8 (getD xs n 0) ≡ eights (suc n) xs
-unfolding eights
-eights-snoc zero xs = sym (append-nil (lows 8 (getD xs 0 0)))
-eights-snoc (suc n) xs =
-    append-assoc (lows 8 (getD xs 0 0)) (eights n (drop 1 xs)) (lows 8 (getD xs (suc n) 0))
-    ∙ ap (λ (k : ℕ). lows 8 (getD xs 0 0) ++ (eights n (drop 1 xs) ++ lows 8 k)) (sym (getD-drop 1 xs n 0 ∙ ap (λ (k : ℕ). getD xs k 0) (omega arith)))
-    ∙ ap {B = List ℕ} (λ (t : List ℕ). lows 8 (getD xs 0 0) ++ t) (eights-snoc n (drop 1 xs))
-
--- one number more is put
-pub eights-more : (l : List ℕ) (a : ℕ) (xs : List ℕ) (i : ℕ) → i < 16 → a + 128 ≤ length l
-    → patch (patch l a (eights i xs)) (a + 8 * i) (lows 8 (getD xs i 0)) ≡ patch l a (eights (i + 1) xs)
-eights-more l a xs i h fits =
-    patch-next l a (eights i xs) (a + 8 * i) (lows 8 (getD xs i 0)) (omega (arith, eights-long i xs)) (omega (arith, lows-long 8 (getD xs i 0)))
-    ∙ ap (patch l a) (eights-snoc i xs ∙ ap (λ (n : ℕ). eights n xs) (sym (add-one i)))
-
-pub numbers-long : (n : ℕ) (b : List ℕ) (a : ℕ) → length (numbers n b a) ≡ n
-unfolding numbers
-numbers-long zero b a = refl
-numbers-long (suc n) b a = ap suc (numbers-long n b (a + 8))
-
-numbers-snoc : (n : ℕ) (b : List ℕ) (a : ℕ) → numbers (suc n) b a ≡ numbers n b a ++ whole (part b (a + 8 * n) 8) ∷ []
-unfolding numbers
-numbers-snoc zero b a = ap (λ (k : ℕ). whole (part b k 8) ∷ []) (omega arith)
-numbers-snoc (suc n) b a =
-    ap {B = List ℕ} (λ (l : List ℕ). whole (part b a 8) ∷ l) (numbers-snoc n b (a + 8))
-    ∙ ap (λ (k : ℕ). whole (part b a 8) ∷ (numbers n b (a + 8) ++ whole (part b k 8) ∷ [])) (omega arith)
-
--- an array of 16 after n numbers are read into it
-abbrev pub filled : ℕ → List ℕ → ℕ → List ℕ
-filled n b a = numbers n b a ++ replicate (16 - n) 0
-
-zeros : (n : ℕ) → n < 16 → replicate {A = ℕ} (16 - n) 0 ≡ 0 ∷ replicate (16 - (n + 1)) 0
-zeros n h = ap (λ (k : ℕ). replicate {A = ℕ} k 0) (let e : 16 - n ≡ suc (16 - (n + 1)) = omega arith in e)
-
-pub filled-none : (b : List ℕ) (a : ℕ) → replicate 16 0 ≡ filled 0 b a
-unfolding numbers
-filled-none b a = refl
-
-pub filled-more : (xs b : List ℕ) (a n w : ℕ) → n < 16 → xs ≡ filled n b a → w ≡ whole (part b (a + 8 * n) 8) → set xs n w ≡ filled (n + 1) b a
-filled-more xs b a n w h e q =
-    ap (λ (l : List ℕ). set l n w) (e ∙ ap (λ (l : List ℕ). numbers n b a ++ l) (zeros n h))
-    ∙ set-at (numbers n b a) 0 (replicate (16 - (n + 1)) 0) w n (numbers-long n b a)
-    ∙ ap (λ (k : ℕ). numbers n b a ++ k ∷ replicate (16 - (n + 1)) 0) q
-    ∙ sym (append-assoc (numbers n b a) (whole (part b (a + 8 * n) 8) ∷ []) (replicate (16 - (n + 1)) 0))
-    ∙ ap (λ (l : List ℕ). l ++ replicate (16 - (n + 1)) 0) (sym (numbers-snoc n b a) ∙ ap (λ (k : ℕ). numbers k b a) (sym (add-one n)))
-
-pub filled-all : (xs b : List ℕ) (a i : ℕ) → i ≤ 16 → 16 ≤ i → xs ≡ filled i b a → xs ≡ numbers 16 b a
-filled-all xs b a i h k e = e ∙ ap (λ (j : ℕ). filled j b a) (le-antisymm h k) ∙ append-nil (numbers 16 b a)
-
--- numbers put one after another are read back
-numbers-eights : (h cs : List ℕ) (a : ℕ) → length h ≡ a → ((i : ℕ) → getD cs i 0 < 256 ^ 8) → numbers (length cs) (h ++ eights (length cs) cs) a ≡ cs
-unfolding numbers eights part
-numbers-eights h [] a e g = refl
-numbers-eights h (x ∷ cs) a e g =
-    let q : length (h ++ lows 8 x) ≡ a + 8 = omega (arith, length-append h (lows 8 x), lows-long 8 x) in
-    rw (first, rest (numbers-eights (h ++ lows 8 x) cs (a + 8) q (λ i. g (suc i))))
-  where
-    first : whole (part (h ++ (lows 8 x ++ eights (length cs) cs)) a 8) ≡ x
-    first =
-        ap (λ (t : List ℕ). whole (take 8 t)) (drop-at h (lows 8 x ++ eights (length cs) cs) a e)
-        ∙ ap whole (take-at (lows 8 x) (eights (length cs) cs) 8 (lows-long 8 x)) ∙ whole-lows 8 x (g 0)
-
-    rest : numbers (length cs) ((h ++ lows 8 x) ++ eights (length cs) cs) (a + 8) ≡ cs → numbers (length cs) (h ++ (lows 8 x ++ eights (length cs) cs)) (a + 8) ≡ cs
-    rest q = ap (λ (t : List ℕ). numbers (length cs) t (a + 8)) (sym (append-assoc h (lows 8 x) (eights (length cs) cs))) ∙ q
+use Rattle.low.specs.Bytes.{lows, whole, part, patch, eights, numbers}
+use Rattle.slot.specs.Slot.{bytesOf, saidBy, slot, put}
+use Rattle.integer.proofs.Order.{le-or-lt}
+use Rattle.low.proofs.Parts.{length-patch, at-part, part-patch, part-patch-before, part-patch-after, patch-next, patch-all, stores4, lent-back}
+use Rattle.low.proofs.Lows.{lows-long, whole-lows}
+use Rattle.low.proofs.Eights.{eights-long, numbers-eights}
 
 -- ---- one slot's bytes
 pub bytes-long : (o : Outcome) → length (bytesOf o) ≡ 136

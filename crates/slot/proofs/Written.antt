@@ -1,32 +1,33 @@
 -- Which outcomes are well formed, and that a well-formed outcome, once written, is a well-formed slot.
 use mathlib.Core.Path.{_≡_, refl, sym, ap, _∙_}
 use mathlib.Core.Bool.{Bool, true, false, _&&_, _||_, or-true, false≢true}
-use mathlib.Core.List.{List, _∷_, _++_, append-assoc}
+use mathlib.Core.List.{List, _∷_}
 use mathlib.Core.Logic.{⊎-elim, inl, inr}
-use Prim.Native.Nat.{ℕ, zero, suc, _+_, _*_, _/_, _%_, _^_, _<_, _≤_}
+use Prim.Native.Nat.{ℕ, zero, suc, _+_, _*_, _%_, _^_, _<_, _≤_}
 use native.Mathlib.Omega.{arith}
-use native.Mathlib.Nat.{eq-or-lt-of-le, le-of-suc-le-suc, not-suc-le-zero, one-le-pow, pow-suc}
+use native.Mathlib.Nat.{eq-or-lt-of-le, le-of-suc-le-suc, not-suc-le-zero}
 use native.Mathlib.Numerals.{add-one}
-use lib.Arith.{mod-mul}
-use lib.Dec.{eqb, leb, ltb, lit<}
-use lib.ListN.{length, drop, getD, length-append}
+use lib.Dec.{eqb, leb, ltb}
+use lib.ListN.{getD}
 use lib.Pow.{mod-mod-pow}
-use lib.Seq.{take-at, drop-at, getD-drop}
+use lib.Seq.{take-at}
 use borrow.Author.Tests.{ltb-true, ltb-false, lt-ltb, le-leb, lt-leb, eqb-true, eqb-false, eq-eqb}
 use Rattle.types.specs.Types.{knownOf, widthOf}
+use Rattle.types.specs.Edition.{Edition}
 use Rattle.value.specs.Pattern.{pick, properOf, keptOf}
 use Rattle.value.specs.Refusals as No
 use Rattle.operand.proofs.Answers.{Fine, Answers}
 use Rattle.operand.specs.declared.Instance.{Instance}
 use Rattle.operand.specs.declared.Outcome.{Outcome}
-use Rattle.operand.specs.Operand.{shapeOk, shapeOf, upTo, every, componentAt, operandFormed}
+use Rattle.operand.specs.Operand.{shapeOk, shapeIn, shapeOf, every, componentAt, operandFormed}
+use Rattle.low.specs.Bytes.{upTo, lows, whole, part, eights, numbers}
 use Rattle.operand.specs.Outcome.{refusedWith, valueOf}
-use Rattle.operand.proofs.Tests.{both, one-of}
-use Rattle.operand.proofs.Shapes.{shape-small, count-small}
+use Rattle.low.proofs.Tests.{both, one-of}
+use Rattle.operand.proofs.Shapes.{shape-small, count-small, shape-in}
 use Rattle.operand.proofs.Every.{every-more}
-use Rattle.slot.specs.Bytes.{lows, whole, part}
-use Rattle.slot.specs.Slot.{eights, numbers, bytesOf, saidBy, slot, each, componentFormed, componentsFormed, valueFormed, blank, detailFormed, formed, wellFormed, referenceTo}
-use Rattle.slot.proofs.Lows.{lows-long}
+use Rattle.slot.specs.Slot.{bytesOf, saidBy, slot, each, componentFormed, componentsFormed, valueFormed, blank, detailFormed, formed, wellFormed, referenceTo}
+use Rattle.low.proofs.Lows.{lows-long, whole-cut}
+use Rattle.low.proofs.Eights.{numbers-cut}
 
 -- ---- tests that follow from tests, side by side; of the kept side nothing is asked
 or-both : {a b x y : Bool} → (a ≡ true → x ≡ true) → (b ≡ true → y ≡ true) → (a || b) ≡ true → (x || y) ≡ true
@@ -77,43 +78,24 @@ comps-formed ty n xs used rest = each-all _ 16 (λ i h. go i (ltb i n) refl)
     go i false e = eq-eqb (getD xs i 0) 0 (rest i (ltb-false i n e))
 
 -- a value of a known type and shape with such components
-value-kept : (v : Instance) → shapeOk (v .ty) (v .cols) (v .rows) ≡ true → ((i : ℕ) → i < v .cols * v .rows → Fine (v .ty) (getD (v .comps) i 0))
-    → ((i : ℕ) → v .cols * v .rows ≤ i → getD (v .comps) i 0 ≡ 0) → valueFormed v ≡ true
+value-kept : (e : Edition) (v : Instance) → shapeIn e (v .ty) (v .cols) (v .rows) ≡ true → ((i : ℕ) → i < v .cols * v .rows → Fine (v .ty) (getD (v .comps) i 0))
+    → ((i : ℕ) → v .cols * v .rows ≤ i → getD (v .comps) i 0 ≡ 0) → valueFormed e v ≡ true
 unfolding valueFormed
-value-kept v h used rest = rw (h, comps-formed (v .ty) (v .cols * v .rows) (v .comps) used rest)
+value-kept e v h used rest = rw (h, comps-formed (v .ty) (v .cols * v .rows) (v .comps) used rest)
 
 -- a well-formed value is a well-formed operand
-value-good : (v : Instance) → valueFormed v ≡ true → operandFormed v ≡ true
+value-good : (e : Edition) (v : Instance) → valueFormed e v ≡ true → operandFormed v ≡ true
 unfolding valueFormed componentsFormed componentFormed operandFormed
-value-good v e =
-    let h = both (shapeOk (v .ty) (v .cols) (v .rows)) _ e in
-    let few : v .cols * v .rows ≤ 16 = count-small (shapeOf v) (shape-small (v .ty) (v .cols) (v .rows) (h .0)) in
-    rw (h .0) (every-all (properOf (v .ty)) (componentAt (v .comps)) (v .cols * v .rows) (λ i l. used i l (each-at _ 16 (h .1) i (omega arith))))
+value-good e v f =
+    let h = both (shapeIn e (v .ty) (v .cols) (v .rows)) _ f in
+    let ok : shapeOk (v .ty) (v .cols) (v .rows) ≡ true = sym (shape-in e (v .ty) (v .cols) (v .rows)) ∙ h .0 in
+    let few : v .cols * v .rows ≤ 16 = count-small (shapeOf v) (shape-small (v .ty) (v .cols) (v .rows) ok) in
+    rw ok (every-all (properOf (v .ty)) (componentAt (v .comps)) (v .cols * v .rows) (λ i l. used i l (each-at _ 16 (h .1) i (omega arith))))
   where
     used : (i : ℕ) → i < v .cols * v .rows → componentFormed (v .ty) (v .cols * v .rows) (v .comps) i ≡ true → properOf (v .ty) (getD (v .comps) i 0) ≡ true
     used i l q = both (properOf (v .ty) (getD (v .comps) i 0)) _ (rw (lt-ltb i (v .cols * v .rows) l) at q) .0
 
 -- ---- what does not fit its bytes is cut: a list of numbers that stands for a buffer may say more than 8 bytes hold
--- the low bytes of a number are its remainder
-whole-cut : (n x : ℕ) → whole (lows n x) ≡ x % 256 ^ n
-unfolding lows whole
-whole-cut zero x = omega arith
-whole-cut (suc n) x =
-    let q : x % (256 ^ n * 256) ≡ (x / 256 % 256 ^ n) * 256 + x % 256 = mod-mul x (one-le-pow n 256 (lit< tt)) (lit< tt) in
-    rw (pow-suc 256 n, q) (omega (arith, whole-cut n (x / 256)))
-
--- components that are written are read back cut to 8 bytes
-numbers-cut : (n : ℕ) (h xs : List ℕ) (a : ℕ) → length h ≡ a → (i : ℕ) → i < n → getD (numbers n (h ++ eights n xs) a) i 0 ≡ getD xs i 0 % 256 ^ 8
-unfolding numbers eights part
-numbers-cut zero h xs a e i q = absurd (not-suc-le-zero q)
-numbers-cut (suc n) h xs a e zero q =
-    ap (λ (t : List ℕ). whole (part t 0 8)) (drop-at h (lows 8 (getD xs 0 0) ++ eights n (drop 1 xs)) a e)
-    ∙ ap whole (take-at (lows 8 (getD xs 0 0)) (eights n (drop 1 xs)) 8 (lows-long 8 (getD xs 0 0))) ∙ whole-cut 8 (getD xs 0 0)
-numbers-cut (suc n) h xs a e (suc i) q =
-    ap (λ (t : List ℕ). getD (numbers n t (a + 8)) i 0) (sym (append-assoc h (lows 8 (getD xs 0 0)) (eights n (drop 1 xs))))
-    ∙ numbers-cut n (h ++ lows 8 (getD xs 0 0)) (drop 1 xs) (a + 8) (omega (arith, length-append h (lows 8 (getD xs 0 0)), lows-long 8 (getD xs 0 0))) i (le-of-suc-le-suc q)
-    ∙ ap (λ (x : ℕ). x % 256 ^ 8) (getD-drop 1 xs i 0 ∙ ap (λ (k : ℕ). getD xs k 0) (omega arith))
-
 -- a proper pattern stays proper
 proper-cut : (ty b : ℕ) → properOf ty b ≡ true → properOf ty (b % 256 ^ 8) ≡ true
 proper-cut ty b =
@@ -152,12 +134,12 @@ comps-cut ty n xs ys cut e = each-all _ 16 (λ i h. rw (cut i h) (go (ltb i n) (
     go false x q = eq-eqb (x % 256 ^ 8) 0 (ap (λ (k : ℕ). k % 256 ^ 8) (eqb-true x 0 q))
 
 -- ---- a well-formed outcome, once written, is a well-formed slot
-pub written : (o : Outcome) → formed o ≡ true → wellFormed (bytesOf o) ≡ true
+pub written : (e : Edition) (o : Outcome) → formed e o ≡ true → wellFormed e (bytesOf o) ≡ true
 unfolding wellFormed formed valueFormed blank saidBy bytesOf part
-written o =
+written e o =
     or-both
     (and-both (and-keep (eqb (o .status) 0) zero-detail)
-    (and-keep (shapeOk (o .value .ty) (o .value .cols) (o .value .rows)) (comps (o .value .ty) (o .value .cols * o .value .rows))))
+    (and-keep (shapeIn e (o .value .ty) (o .value .cols) (o .value .rows)) (comps (o .value .ty) (o .value .cols * o .value .rows))))
     (and-both
     (and-keep (leb 1 (o .status) && leb (o .status) 11)
     (or-both (or-keep (eqb (o .status) 10) (or-keep (eqb (o .status) 9) zero-detail)) (and-keep (eqb (o .status) 11) low-detail)))
@@ -180,21 +162,23 @@ written o =
 
 -- ---- which outcomes are well formed
 -- a value of a known type and shape, whose components in use are proper and kept, the others 0
-pub formed-value : (v : Instance) → shapeOk (v .ty) (v .cols) (v .rows) ≡ true → ((i : ℕ) → i < v .cols * v .rows → Fine (v .ty) (getD (v .comps) i 0))
-    → ((i : ℕ) → v .cols * v .rows ≤ i → getD (v .comps) i 0 ≡ 0) → formed (valueOf v) ≡ true
+pub formed-value : (e : Edition) (v : Instance) → shapeIn e (v .ty) (v .cols) (v .rows) ≡ true → ((i : ℕ) → i < v .cols * v .rows → Fine (v .ty) (getD (v .comps) i 0))
+    → ((i : ℕ) → v .cols * v .rows ≤ i → getD (v .comps) i 0 ≡ 0) → formed e (valueOf v) ≡ true
 unfolding formed
-formed-value v h used rest = rw (value-kept v h used rest)
+formed-value e v h used rest = rw (value-kept e v h used rest)
 
 -- a refusal by a number from 1 to 11 with such a detail
-refusal-formed : (n d : ℕ) → 1 ≤ n → n ≤ 11 → detailFormed n d ≡ true → formed (refusedWith n d) ≡ true
+refusal-formed : (e : Edition) (n d : ℕ) → 1 ≤ n → n ≤ 11 → detailFormed n d ≡ true → formed e (refusedWith n d) ≡ true
 unfolding formed blank componentsFormed componentFormed each
-refusal-formed n d lo hi h = rw (le-leb 1 n lo, le-leb n 11 hi, h) (or-true (eqb n 0 && eqb d 0 && valueFormed (refusedWith n d .value)))
+refusal-formed e n d lo hi h = rw (le-leb 1 n lo, le-leb n 11 hi, h) (or-true (eqb n 0 && eqb d 0 && valueFormed e (refusedWith n d .value)))
 
 -- whatever an operator answers
-pub answers-formed : (o : Outcome) → Answers o → formed o ≡ true
+pub answers-formed : (e : Edition) (o : Outcome) → Answers o → formed e o ≡ true
 unfolding formed
-answers-formed o (inl a) = rw (eq-eqb (o .status) 0 (a .status), eq-eqb (o .detail) 0 (a .detail), value-kept (o .value) (a .shape) (a .parts .used) (a .parts .rest))
-answers-formed o (inr a) = ap formed (a .zeros) ∙ refusal-formed (o .status) (o .detail) (a .low) (omega (arith, a .high)) (go (eqb (o .status) 9) (eqb (o .status) 10) refl refl)
+answers-formed e o (inl a) =
+    let shape = shape-in e (o .value .ty) (o .value .cols) (o .value .rows) ∙ a .shape in
+    rw (eq-eqb (o .status) 0 (a .status), eq-eqb (o .detail) 0 (a .detail), value-kept e (o .value) shape (a .parts .used) (a .parts .rest))
+answers-formed e o (inr a) = ap (formed e) (a .zeros) ∙ refusal-formed e (o .status) (o .detail) (a .low) (omega (arith, a .high)) (go (eqb (o .status) 9) (eqb (o .status) 10) refl refl)
   where
     go : (x y : Bool) → eqb (o .status) 9 ≡ x → eqb (o .status) 10 ≡ y → (eqb (o .detail) 0 || x || y || (eqb (o .status) 11 && ltb (o .detail) 128)) ≡ true
     go true y p q = rw (or-true (eqb (o .detail) 0))
@@ -202,24 +186,24 @@ answers-formed o (inr a) = ap formed (a .zeros) ∙ refusal-formed (o .status) (
     go false false p q = rw (eq-eqb (o .detail) 0 (a .plain (eqb-false (o .status) 9 p) (eqb-false (o .status) 10 q)))
 
 -- a reference to one of 128 entries, whatever its slot holds
-pub reference-formed : (l : List ℕ) (k : ℕ) → k < 128 → formed (referenceTo l k) ≡ true
+pub reference-formed : (e : Edition) (l : List ℕ) (k : ℕ) → k < 128 → formed e (referenceTo e l k) ≡ true
 unfolding referenceTo wellFormed
-reference-formed l k h = go (eqb (saidBy (slot l k) .status) 0) (formed (saidBy (slot l k))) refl
+reference-formed e l k h = go (eqb (saidBy (slot l k) .status) 0) (formed e (saidBy (slot l k))) refl
   where
-    from-entry : formed (refusedWith No.FromEntry k) ≡ true
-    from-entry = refusal-formed 11 k (omega arith) (omega arith) (rw (lt-ltb k 128 h) (or-true (eqb k 0 || false || false)))
+    from-entry : formed e (refusedWith No.FromEntry k) ≡ true
+    from-entry = refusal-formed e 11 k (omega arith) (omega arith) (rw (lt-ltb k 128 h) (or-true (eqb k 0 || false || false)))
 
-    go : (a b : Bool) → formed (saidBy (slot l k)) ≡ b → formed (pick (a && b) (saidBy (slot l k)) (refusedWith No.FromEntry k)) ≡ true
-    go true true e = e
-    go true false e = from-entry
-    go false b e = from-entry
+    go : (a b : Bool) → formed e (saidBy (slot l k)) ≡ b → formed e (pick (a && b) (saidBy (slot l k)) (refusedWith No.FromEntry k)) ≡ true
+    go true true q = q
+    go true false q = from-entry
+    go false b q = from-entry
 
 -- the value of a well-formed outcome of status 0 is a well-formed operand
-pub formed-good : (o : Outcome) → formed o ≡ true → eqb (o .status) 0 ≡ true → operandFormed (o .value) ≡ true
+pub formed-good : (e : Edition) (o : Outcome) → formed e o ≡ true → eqb (o .status) 0 ≡ true → operandFormed (o .value) ≡ true
 unfolding formed
-formed-good o e q =
+formed-good e o f q =
     let z : leb 1 (o .status) ≡ false = lt-leb 1 (o .status) (omega (arith, eqb-true (o .status) 0 q)) in
     ⊎-elim
-    (λ p. value-good (o .value) (both (eqb (o .status) 0 && eqb (o .detail) 0) _ p .1))
+    (λ p. value-good e (o .value) (both (eqb (o .status) 0 && eqb (o .detail) 0) _ p .1))
     (λ p. absurd (false≢true (rw z at p)))
-    (one-of (eqb (o .status) 0 && eqb (o .detail) 0 && valueFormed (o .value)) _ e)
+    (one-of (eqb (o .status) 0 && eqb (o .detail) 0 && valueFormed e (o .value)) _ f)

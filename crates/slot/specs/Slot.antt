@@ -1,26 +1,17 @@
 -- Results (01, The sheet): 136 bytes an entry, what they say, and which of them are well formed.
 use mathlib.Core.List.{List, [], _∷_, _++_}
 use mathlib.Core.Bool.{Bool, true, _&&_, _||_}
-use Prim.Native.Nat.{ℕ, zero, suc, _+_, _*_, _/_}
+use Prim.Native.Nat.{ℕ, zero, suc, _*_, _/_}
 use lib.Dec.{eqb, leb, ltb}
-use lib.ListN.{length, drop, getD}
+use lib.ListN.{length, getD}
+use Rattle.types.specs.Edition.{Edition}
 use Rattle.value.specs.Pattern.{pick, properOf, keptOf}
 use Rattle.value.specs.Refusals as No
 use Rattle.operand.specs.declared.Instance.{Instance}
 use Rattle.operand.specs.declared.Outcome.{Outcome}
-use Rattle.operand.specs.Operand.{shapeOk}
+use Rattle.operand.specs.Operand.{shapeIn}
 use Rattle.operand.specs.Outcome.{refusedWith}
-use Rattle.slot.specs.Bytes.{lows, whole, part, patch}
-
--- the first n numbers as 8 bytes each
-unfoldable pub eights : ℕ → List ℕ → List ℕ
-eights zero xs = []
-eights (suc n) xs = lows 8 (getD xs 0 0) ++ eights n (drop 1 xs)
-
--- n numbers of 8 bytes from place a on
-unfoldable pub numbers : ℕ → List ℕ → ℕ → List ℕ
-numbers zero b a = []
-numbers (suc n) b a = whole (part b a 8) ∷ numbers n b (a + 8)
+use Rattle.low.specs.Bytes.{lows, whole, part, patch, eights, numbers}
 
 -- status, type, columns, rows, detail in 4 bytes low first, 16 components
 unfoldable pub bytesOf : Outcome → List ℕ
@@ -55,9 +46,9 @@ componentFormed ty n xs i = pick (ltb i n) (properOf ty (getD xs i 0) && eqb (ke
 unfoldable pub componentsFormed : ℕ → ℕ → List ℕ → Bool
 componentsFormed ty n xs = each (componentFormed ty n xs) 16
 
--- a type and shape as in Operands, and its components
-unfoldable pub valueFormed : Instance → Bool
-valueFormed v = shapeOk (v .ty) (v .cols) (v .rows) && componentsFormed (v .ty) (v .cols * v .rows) (v .comps)
+-- a type of the sheet's edition and a shape as in Operands, and its components
+unfoldable pub valueFormed : Edition → Instance → Bool
+valueFormed e v = shapeIn e (v .ty) (v .cols) (v .rows) && componentsFormed (v .ty) (v .cols * v .rows) (v .comps)
 
 -- a refused entry has type, columns, rows and components 0
 unfoldable pub blank : Instance → Bool
@@ -68,15 +59,15 @@ abbrev pub detailFormed : ℕ → ℕ → Bool
 detailFormed n d = eqb d 0 || eqb n No.ShlOverflow || eqb n No.ShrOverflow || (eqb n No.FromEntry && ltb d 128)
 
 -- status 0, detail 0 and such a value; or status 1 to 11 with those zeros and such a detail
-unfoldable pub formed : Outcome → Bool
-formed o =
-    (eqb (o .status) 0 && eqb (o .detail) 0 && valueFormed (o .value))
+unfoldable pub formed : Edition → Outcome → Bool
+formed e o =
+    (eqb (o .status) 0 && eqb (o .detail) 0 && valueFormed e (o .value))
     || (leb No.Unary (o .status) && leb (o .status) No.FromEntry && detailFormed (o .status) (o .detail) && blank (o .value))
 
--- a slot is well formed
-unfoldable pub wellFormed : List ℕ → Bool
-wellFormed b = formed (saidBy b)
+-- a slot of a sheet of this edition is well formed
+unfoldable pub wellFormed : Edition → List ℕ → Bool
+wellFormed e b = formed e (saidBy b)
 
 -- a reference to a slot whose status is not 0, or that is not well formed, refuses with FromEntry
-unfoldable pub referenceTo : List ℕ → ℕ → Outcome
-referenceTo l k = pick (eqb (saidBy (slot l k) .status) 0 && wellFormed (slot l k)) (saidBy (slot l k)) (refusedWith No.FromEntry k)
+unfoldable pub referenceTo : Edition → List ℕ → ℕ → Outcome
+referenceTo e l k = pick (eqb (saidBy (slot l k) .status) 0 && wellFormed e (slot l k)) (saidBy (slot l k)) (refusedWith No.FromEntry k)

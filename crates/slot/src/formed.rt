@@ -3,6 +3,7 @@ use operand::Instance;
 use operand::Outcome;
 ghost use mathlib.Core.Path.{_≡_};
 ghost use Prim.Native.Nat.{_*_, _<_};
+ghost use Rattle.types.specs.Edition.{plain};
 ghost use Rattle.slot.specs.Slot.{componentFormed, componentsFormed, valueFormed, blank, detailFormed, formed};
 
 // How many components a shape has.
@@ -39,7 +40,7 @@ fn components_formed(ty: u8, n: usize, xs: [u64; 16]) -> bool
 
 // Whether a value may stand in a slot of status 0.
 fn value_formed(v: Instance) -> bool
-    ensures { λ r. ⌜ r ≡ valueFormed v ⌝ }
+    ensures { λ r. ⌜ r ≡ valueFormed plain v ⌝ }
 {
     let xs = v.comps;
     operand::shape_ok(v.ty, v.cols, v.rows) & components_formed(v.ty, area(v.cols, v.rows), xs)
@@ -62,7 +63,7 @@ fn detail_formed(number: u8, detail: u32) -> bool
 
 // Whether a slot that says this is well formed.
 pub(crate) fn formed(o: Outcome) -> bool
-    ensures { λ r. ⌜ r ≡ formed o ⌝ }
+    ensures { λ r. ⌜ r ≡ formed plain o ⌝ }
 {
     let v = o.value;
     let s = o.status;

@@ -1,11 +1,11 @@
 // Results: a value or a refusal in 136 lent bytes an entry.
 mod formed;
-mod words;
 
 use operand::Outcome;
 use value::refusals;
 ghost use mathlib.Core.Path.{_≡_};
 ghost use lib.ListN.{length};
+ghost use Rattle.types.specs.Edition.{plain};
 ghost use Rattle.slot.specs.Slot.{bytesOf, saidBy, slot, put, wellFormed, referenceTo};
 
 // What the bytes of one slot say.
@@ -13,8 +13,8 @@ fn said_by(b: &[u8]) -> Outcome
     requires { ⌜ length (now b) ≡ 136 ⌝ }
     ensures { λ o. ⌜ o ≡ saidBy (now (b .entry)) ⌝ }
 {
-    let detail = words::get32(b, 4) as u32;
-    let comps = words::get_words(b, 8);
+    let detail = low::get32(b, 4) as u32;
+    let comps = low::get_words(b, 8);
     Outcome {
         status: b[0],
         detail,
@@ -38,8 +38,8 @@ fn say(b: &mut [u8], o: Outcome)
     b[1] = value.ty;
     b[2] = value.cols;
     b[3] = value.rows;
-    words::put32(b, 4, o.detail as u64);
-    words::put_words(b, 8, comps);
+    low::put32(b, 4, o.detail as u64);
+    low::put_words(b, 8, comps);
 }
 
 // What slot k says, whatever its bytes are. Past the last whole slot that is all zeros, which is not well formed.
@@ -77,14 +77,14 @@ pub fn put(results: &mut [u8], k: usize, o: Outcome)
 
 // Whether slot k is well formed; past the last whole slot none is.
 pub fn well_formed(results: &[u8], k: usize) -> bool
-    ensures { λ r. ⌜ r ≡ wellFormed (slot (now (results .entry)) k) ⌝ }
+    ensures { λ r. ⌜ r ≡ wellFormed plain (slot (now (results .entry)) k) ⌝ }
 {
     formed::formed(read(results, k))
 }
 
 // What a reference to an entry reads: the value of its slot, or FromEntry with the entry named.
 pub fn reference(results: &[u8], entry: u8) -> Outcome
-    ensures { λ o. ⌜ o ≡ referenceTo (now (results .entry)) entry ⌝ }
+    ensures { λ o. ⌜ o ≡ referenceTo plain (now (results .entry)) entry ⌝ }
 {
     let o = read(results, entry as usize);
     if (o.status == 0) & formed::formed(o) {

@@ -9,7 +9,7 @@ use native.Mathlib.Nat.{pow-suc, one-le-pow, div-lt-iff-lt-mul, not-suc-le-zero,
 use lib.Dec.{lit<}
 use borrow.Author.Tests.{lt-ltb, le-ltb}
 use Rattle.io.specs.Digits.{digits, glyph, Fewest}
-use Rattle.slot.proofs.Parts.{le-or-lt}
+use Rattle.integer.proofs.Order.{le-or-lt}
 use Rattle.text.specs.Text.{Put, decimals, dec, hex, digitsOf}
 
 -- a digit below 10

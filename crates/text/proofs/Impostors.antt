@@ -6,8 +6,8 @@ use mathlib.Core.List.{List, [], _∷_, _++_}
 use Prim.Native.Nat.{ℕ}
 use lib.ListN.{length, replicate}
 use Rattle.value.specs.Pattern.{keptOf}
-use Rattle.slot.specs.Bytes.{whole, part}
-use Rattle.slot.specs.Slot.{numbers, saidBy, slot, each, componentFormed, componentsFormed, valueFormed, blank, formed, wellFormed}
+use Rattle.low.specs.Bytes.{whole, part, numbers}
+use Rattle.slot.specs.Slot.{saidBy, slot, each, componentFormed, componentsFormed, valueFormed, blank, formed, wellFormed}
 use Rattle.text.specs.Text.{ascii, decimals, dec, hex, spaced, shown, line, lines, entries, listing, refusalLine, mover, movers, movedLine}
 
 -- the results of one entry of status 0: its type, columns, rows and the low byte of its first component

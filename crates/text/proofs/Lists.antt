@@ -11,7 +11,8 @@ use lib.Dec.{eqb}
 use lib.ListN.{length, take, getD}
 use lib.Seq.{take-suc, take-all}
 use Rattle.operand.specs.declared.Outcome.{Outcome}
-use Rattle.slot.proofs.Parts.{le-or-lt}
+use Rattle.integer.proofs.Order.{le-or-lt}
+use Rattle.types.specs.Edition.{plain}
 use Rattle.slot.specs.Slot.{slot, saidBy, wellFormed}
 use Rattle.text.specs.Text.{dec, spaced, words, fields, shown, line, lines, mover, movers}
 
@@ -30,7 +31,7 @@ module _ (f : ℕ → List ℕ) where
   unfolding spaced
   spaced-none = refl
 
-pub lines-more : (b : List ℕ) (n : ℕ) → lines b (n + 1) ≡ lines b n ++ line n (saidBy (slot b n)) (wellFormed (slot b n))
+pub lines-more : (b : List ℕ) (n : ℕ) → lines b (n + 1) ≡ lines b n ++ line n (saidBy (slot b n)) (wellFormed plain (slot b n))
 unfolding lines
 lines-more b n = rw add-one
 

@@ -7,8 +7,8 @@ use native.Mathlib.Numerals.{add-one}
 use lib.ListN.{length, take, getD, set, length-append}
 use lib.Seq.{take-suc, length-take-le, set-split}
 use Rattle.io.specs.Counts.{Counts}
-use Rattle.slot.specs.Bytes.{patch}
-use Rattle.slot.proofs.Parts.{patch-none, patch-next, length-patch}
+use Rattle.low.specs.Bytes.{patch}
+use Rattle.low.proofs.Parts.{patch-none, patch-next, length-patch}
 use Rattle.text.specs.Text.{Put}
 
 -- one text after another

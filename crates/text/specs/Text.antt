@@ -9,7 +9,8 @@ use lib.Dec.{ltb, eqb}
 use lib.ListN.{length, take, getD}
 use Rattle.io.specs.Digits.{digits}
 use Rattle.operand.specs.declared.Outcome.{Outcome}
-use Rattle.slot.specs.Bytes.{patch}
+use Rattle.low.specs.Bytes.{patch}
+use Rattle.types.specs.Edition.{plain}
 use Rattle.slot.specs.Slot.{slot, saidBy, wellFormed}
 
 -- a text as bytes, one for each character
@@ -59,7 +60,7 @@ line k o formed =
 -- the lines of the first n entries
 unfoldable pub lines : List ℕ → ℕ → List ℕ
 lines b zero = []
-lines b (suc n) = lines b n ++ line n (saidBy (slot b n)) (wellFormed (slot b n))
+lines b (suc n) = lines b n ++ line n (saidBy (slot b n)) (wellFormed plain (slot b n))
 
 -- 136 bytes an entry, at most 128 entries
 unfoldable pub entries : List ℕ → ℕ

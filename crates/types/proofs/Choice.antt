@@ -1,7 +1,7 @@
--- What a test picks, the parts of two tests, and what a table gives past its keys. Assumes nothing.
+-- What a test picks, and what a table gives past its keys. Assumes nothing.
 use Prim.Native.Nat.{ℕ, zero, suc, _+_, _<_, _≤_}
 use mathlib.Core.Path.{_≡_, refl, sym, ap}
-use mathlib.Core.Bool.{Bool, true, false, _&&_, true≢false}
+use mathlib.Core.Bool.{Bool, true, false}
 use mathlib.Core.List.{List, _∷_}
 use mathlib.Core.Logic.{_⊎_, inl, inr}
 use native.Mathlib.Omega.{arith}
@@ -14,10 +14,6 @@ module _ {A : Type 0} {t : Bool} (a b : A) where
 
   pub passed : t ≡ false → b ≡ pick t a b
   passed e = sym (ap (λ (t : Bool). pick t a b) e)
-
-pub both : (a b : Bool) → (a && b) ≡ true → (a ≡ true) × (b ≡ true)
-both true b h = (refl, h)
-both false b h = absurd (true≢false (sym h))
 
 -- i is none of n keys from a on, as a match leaves it
 abbrev pub Misses : ℕ → ℕ → ℕ → Type 0

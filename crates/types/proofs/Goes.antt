@@ -6,7 +6,8 @@ use lib.Dec.{eqb}
 use borrow.Author.Tests.{eqb-true}
 use Rattle.types.specs.declared.CommonType.the-variants.{Code, Nothing}
 use Rattle.types.specs.Types.{signedInts, knownOf, abstractOf, classOf, floatOf, integerOf, goesTo, commonType}
-use Rattle.types.proofs.Choice.{picked, passed, both}
+use Rattle.types.proofs.Choice.{picked, passed}
+use Rattle.low.proofs.Tests.{both}
 use Rattle.types.proofs.Rows.{by-code}
 
 module _ (a b : ℕ) {g : Bool} (e : g ≡ goesTo b a) where

@@ -4,5 +4,6 @@ pub mod Rows
 pub mod Goes
 pub mod Table
 pub mod Bounds
+pub mod Editions
 pub mod Single
 pub mod Impostors

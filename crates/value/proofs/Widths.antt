@@ -14,7 +14,8 @@ use mir.Syntax.{Width}
 use mir.Val.{Fits, bits}
 use Rattle.integer.proofs.Order.{le-or-lt}
 use Rattle.types.specs.Types.{knownOf, widthOf, mostOf}
-use Rattle.types.proofs.Choice.{picked, passed, both}
+use Rattle.types.proofs.Choice.{picked, passed}
+use Rattle.low.proofs.Tests.{both}
 use Rattle.types.proofs.Rows.{by-code, most-width}
 use Rattle.value.specs.declared.Scalar.{Scalar}
 use Rattle.value.specs.declared.Scalar.the-variants as S

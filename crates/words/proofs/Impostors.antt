@@ -6,7 +6,7 @@ use Prim.Native.Nat.{ℕ, _+_}
 use lib.ListN.{length, drop, replicate}
 use Rattle.words.specs.declared.number.Spelled.the-variants.{Number, Nothing}
 use Rattle.words.specs.Spelling.{lowDigit, letterDigit, digitOf, onwards, digitsOnly, spelled}
-use Rattle.words.specs.Split.{before, behind, wordAt, wordCount}
+use Rattle.words.specs.Split.{before, behind, wordAt, nextPlace, wordPlace, wordCount}
 
 -- decimal: "12" is not 11, as where each digit counts as 1
 pub digits-count : spelled 10 (49 ∷ 50 ∷ []) ≡ Number 12
@@ -38,3 +38,12 @@ words-counted = refl
 pub second-end : 4 + length (before 0 (drop 4 line)) ≡ 5
 unfolding before
 second-end = refl
+
+-- a word of one byte, twice
+abbrev twice : List ℕ
+twice = 99 ∷ 0 ∷ 99 ∷ 0 ∷ []
+
+-- word: another word of the same bytes is not the one that is asked for
+pub second-place : (wordAt 1 twice ≡ wordAt 0 twice) × (wordPlace 1 twice ≡ 2)
+unfolding wordAt wordPlace nextPlace behind before
+second-place = (refl, refl)

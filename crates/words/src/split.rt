@@ -4,7 +4,7 @@ ghost use Prim.Native.Nat.{_+_, _≤_};
 ghost use mathlib.Core.Bool.{cond};
 ghost use lib.Dec.{eqb};
 ghost use lib.ListN.{length, drop};
-ghost use Rattle.words.specs.Split.{before, behind, wordAt, wordCount};
+ghost use Rattle.words.specs.Split.{before, nextPlace, WordOf, wordCount};
 
 // Where the part ends that starts at a place: at the first byte from there on that is `end`, or behind the last.
 pub fn end_of(s: &[u8], from: usize, end: u8) -> usize
@@ -23,15 +23,15 @@ pub fn end_of(s: &[u8], from: usize, end: u8) -> usize
 // Where the next word starts.
 fn next(s: &[u8], from: usize) -> usize
     requires { ⌜ from ≤ length (now s) ⌝ }
-    ensures { λ r. ⌜ (drop r (now (s .entry)) ≡ behind (drop from (now (s .entry)))) × (r ≤ length (now (s .entry))) ⌝ }
+    ensures { λ r. ⌜ r ≡ from + nextPlace (drop from (now (s .entry))) ⌝ }
 {
     let e = end_of(s, from, 0);
     if e < s.len() { e + 1 } else { e }
 }
 
-// Word k, counted from 0; nothing where there is no such word.
+// Word k, counted from 0, as a part of s; nothing, at the end, where there is no such word.
 pub fn word(s: &[u8], k: usize) -> &[u8]
-    ensures { λ r. ⌜ now r ≡ wordAt k (now (s .entry)) ⌝ }
+    ensures { λ r. ⌜ WordOf (s .entry) k r ⌝ }
 {
     let mut at = 0;
     let mut left = k;

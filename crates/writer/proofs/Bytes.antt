@@ -7,11 +7,9 @@ use borrow.Author.Tests.{ltb-true}
 use Rattle.operand.specs.declared.Instance.{Instance}
 use Rattle.operand.specs.Operand.{shapeOf}
 use Rattle.operand.proofs.Shapes.{shaped, shape-small}
-use Rattle.slot.specs.Bytes.{lows}
-use Rattle.slot.specs.Slot.{eights}
+use Rattle.low.specs.Bytes.{lows, eights}
 use Rattle.sheet.specs.Tree.{Expr, literal, reference, unary, binary, Entry, setting, expression, entryStage}
-use Rattle.writer.specs.Write.{writeLiteral, writeNode, writeBody, stageByte, writeRecord, writeSheet}
-use Rattle.writer.specs.Write.{WritableValue, WritableNode, WritableEntry, WritableEntries, Writable, Bytes}
+use Rattle.writer.specs.Write.{writeLiteral, writeNode, writeBody, stageByte, writeRecord, writeSheet, WritableValue, WritableNode, WritableEntry, WritableEntries, Writable, Bytes}
 
 abbrev Byte : ℕ → Type 0
 Byte x = x < 256

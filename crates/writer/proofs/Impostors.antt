@@ -7,14 +7,15 @@ use native.Mathlib.Omega.{arith}
 use lib.ListN.{replicate}
 use borrow.Author.Tests.{lt-ltb}
 use Rattle.value.specs.Pattern.{keptOf}
-use Rattle.operand.specs.Operand.{aScalar}
-use Rattle.slot.specs.Bytes.{lows}
-use Rattle.slot.specs.Slot.{eights}
-use Rattle.sheet.specs.Read.{found, refused, must, thenRead, readAs, placedFrom}
+use Rattle.types.specs.Edition.{plain}
+use Rattle.operand.specs.Operand.{every, aScalar}
+use Rattle.low.specs.Bytes.{lows, whole, part, numbers, eights}
+use Rattle.low.specs.Read.{found, refused, must, thenRead, readAs, placedFrom}
 use Rattle.sheet.specs.Tree.{literal, reference, binary, Entry, setting, expression, entryStage}
 use Rattle.sheet.specs.Node.{allProper, components, readLiteral, operands, readOperator, tagOf, onTag, readNode}
-use Rattle.sheet.specs.Record.{readHead, bodyAt, readSetting, readExpression, readBody, readRecord}
-use Rattle.sheet.specs.Sheet.{readRecords, readSheet}
+use Rattle.sheet.specs.Stage.{kindOf}
+use Rattle.sheet.specs.Record.{readHead, readSetting, readKind, readBody, readRecord}
+use Rattle.sheet.specs.Sheet.{sheetOf, readRecords, readFrom, readSheet}
 use Rattle.sheet.proofs.Example as example
 use Rattle.writer.specs.Write.{writeLiteral, writeNode, writeBody, stageByte, writeRecord, writeSheet, settledValue, settledNode, settledEntry, settled}
 use Rattle.writer.specs.Write.{WritableValue, depth, WritableNode, WritableEntry, WritableEntries, Writable}
@@ -56,32 +57,32 @@ example-writable =
 -- ---- wrong writers, by the bytes that they give for an entry: the reader refuses them, or reads another entry
 -- the length's high byte first
 pub length-high-first : readSheet (0xD5 ∷ 0x17 ∷ 3 ∷ 0 ∷ 12 ∷ writeLiteral (aScalar 4 5)) ≡ refused 22 17
-unfolding must readHead readRecord readRecords readSheet thenRead writeLiteral eights lows
+unfolding whole part must readHead readRecord readRecords readFrom readSheet thenRead readAs writeLiteral eights lows
 length-high-first = refl
 
 -- a component's high byte first
 pub component-high-first : readSheet (0xD5 ∷ 0x17 ∷ 3 ∷ 12 ∷ 0 ∷ 1 ∷ 4 ∷ 1 ∷ 1 ∷ replicate 7 0 ++ 5 ∷ []) ≡ refused 26 5
-unfolding must thenRead readAs placedFrom allProper readLiteral readHead bodyAt readSetting readExpression readBody readRecord readRecords readSheet
+unfolding every whole part numbers must thenRead readAs placedFrom allProper readLiteral kindOf readHead readSetting readKind readBody readRecord readRecords readFrom readSheet
 component-high-first = refl
 
 -- a setting's stage byte as the stage that it counts as
-pub setting-as-override : readSheet (0xD5 ∷ 0x17 ∷ 1 ∷ 12 ∷ 0 ∷ writeLiteral (aScalar 4 5)) ≡ found (expression 1 (literal (aScalar 4 5)) ∷ []) 17
-unfolding must thenRead readAs placedFrom allProper components readLiteral tagOf onTag readNode
-    readHead bodyAt readExpression readBody readRecord readRecords readSheet keptOf writeLiteral eights lows
+pub setting-as-override : readSheet (0xD5 ∷ 0x17 ∷ 1 ∷ 12 ∷ 0 ∷ writeLiteral (aScalar 4 5)) ≡ found (sheetOf plain 0 (expression 1 (literal (aScalar 4 5)) ∷ [])) 17
+unfolding every whole part numbers must thenRead readAs placedFrom allProper components readLiteral tagOf onTag readNode
+    kindOf readHead readKind readBody readRecord readRecords readFrom readSheet keptOf writeLiteral eights lows
 setting-as-override = refl
 
 -- the right operand before the left
 pub right-before-left : readSheet (0xD5 ∷ 0x17 ∷ 0 ∷ 26 ∷ 0 ∷ 4 ∷ 4 ∷ writeLiteral (aScalar 4 1) ++ writeLiteral (aScalar 4 2))
-    ≡ found (expression 0 (binary 0 4 (literal (aScalar 4 1)) (literal (aScalar 4 2))) ∷ []) 31
-unfolding must thenRead readAs placedFrom allProper components readLiteral operands readOperator tagOf onTag readNode
-    readHead bodyAt readExpression readBody readRecord readRecords readSheet keptOf writeLiteral eights lows
+    ≡ found (sheetOf plain 0 (expression 0 (binary 0 4 (literal (aScalar 4 1)) (literal (aScalar 4 2))) ∷ [])) 31
+unfolding every whole part numbers must thenRead readAs placedFrom allProper components readLiteral operands readOperator tagOf onTag readNode
+    kindOf readHead readKind readBody readRecord readRecords readFrom readSheet keptOf writeLiteral eights lows
 right-before-left = refl
 
 -- ---- a refusal is not decided by its node's head alone: a Bool literal of 2 and one of 1 agree up to there
 pub component-decides : readSheet (0xD5 ∷ 0x17 ∷ 3 ∷ 12 ∷ 0 ∷ 1 ∷ 0 ∷ 1 ∷ 1 ∷ 2 ∷ replicate 7 0) ≡ refused 26 5
-unfolding must thenRead readAs placedFrom allProper readLiteral readHead bodyAt readSetting readExpression readBody readRecord readRecords readSheet
+unfolding every whole part numbers must thenRead readAs placedFrom allProper readLiteral kindOf readHead readSetting readKind readBody readRecord readRecords readFrom readSheet
 component-decides = refl
 
-pub component-taken : readSheet (0xD5 ∷ 0x17 ∷ 3 ∷ 12 ∷ 0 ∷ 1 ∷ 0 ∷ 1 ∷ 1 ∷ 1 ∷ replicate 7 0) ≡ found (setting (aScalar 0 1) ∷ []) 17
-unfolding must thenRead readAs placedFrom allProper components readLiteral readHead bodyAt readSetting readExpression readBody readRecord readRecords readSheet keptOf
+pub component-taken : readSheet (0xD5 ∷ 0x17 ∷ 3 ∷ 12 ∷ 0 ∷ 1 ∷ 0 ∷ 1 ∷ 1 ∷ 1 ∷ replicate 7 0) ≡ found (sheetOf plain 0 (setting (aScalar 0 1) ∷ [])) 17
+unfolding every whole part numbers must thenRead readAs placedFrom allProper components readLiteral kindOf readHead readSetting readKind readBody readRecord readRecords readFrom readSheet keptOf
 component-taken = refl

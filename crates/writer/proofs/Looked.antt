@@ -1,20 +1,26 @@
 -- Reading a body looks at no byte past what it answers: a body as long that agrees up to there is answered alike.
 use mathlib.Core.Path.{_≡_, refl, sym, ap, subst, _∙_}
 use mathlib.Core.Bool.{Bool, true, false}
-use mathlib.Core.List.{List, _∷_, _++_}
+use mathlib.Core.List.{List, _∷_, _++_, map}
 use Prim.Native.Nat.{ℕ, zero, suc, _+_, _*_, _-_, _≤_}
 use native.Mathlib.Omega.{arith}
 use lib.Dec.{leb, ltb, eqb}
 use lib.ListN.{length, getD, replicate}
 use borrow.Author.Tests.{leb-true}
-use Rattle.value.specs.Pattern.{pick, properOf, keptOf}
+use Rattle.types.specs.Edition.{plain}
+use Rattle.value.specs.Pattern.{properOf, keptOf}
 use Rattle.value.specs.Refusals as No
-use Rattle.sheet.specs.Read.{Read, found, refused, must, thenRead, readAs, there, cut}
+use Rattle.operand.specs.Operand.{every}
+use Rattle.low.specs.Bytes.{whole, part, numbers}
+use Rattle.low.proofs.Lows.{whole-part}
+use Rattle.low.specs.Read.{Read, found, refused, must, thenRead, readAs, there}
+use Rattle.sheet.specs.Node.{cut, allProper, components, literalHead, literalCount, literalOk, readComponents, readLiteral, readReference, operatorKnown, operands, readOperator}
 use Rattle.sheet.specs.Tree.{Expr, literal, reference, unary, binary, setting, expression}
-use Rattle.sheet.specs.Node.{leWord, allProper, components, literalHead, literalCount, literalOk, readComponents, readLiteral, readReference}
-use Rattle.sheet.specs.Node.{operatorKnown, operands, readOperator}
 use Rattle.sheet.specs.Node.{Tag, isLiteral, isReference, isOperator, unknown, tagOf, onTag, readNode}
-use Rattle.sheet.specs.Record.{readSetting, readExpression, readBody}
+use Rattle.sheet.specs.declared.Kind.{Kind}
+use Rattle.sheet.specs.declared.Kind.the-variants.{Setting, Expression}
+use Rattle.sheet.specs.Stage.{kindOf}
+use Rattle.sheet.specs.Record.{readSetting, readKind, readBody}
 use Rattle.sheet.proofs.Components.{literal-small}
 use Rattle.sheet.proofs.Inverse.{node-ends}
 use Rattle.writer.specs.Refused.{extent, Agree}
@@ -61,7 +67,7 @@ module _ (b : List ℕ) where
   unfolding extent looked
   components-least at l = must-least (at + 4) _ _ _ (λ z. omega arith) (λ z. must-least (at + 4) _ _ _ (λ z. omega arith) (λ z. omega arith))
 
-  literal-least : (only : Bool) (at : ℕ) → at + 1 ≤ length b → at + 1 ≤ looked (readLiteral only b at)
+  literal-least : (only : Bool) (at : ℕ) → at + 1 ≤ length b → at + 1 ≤ looked (readLiteral plain only b at)
   unfolding extent looked readLiteral
   literal-least only at l =
       must-least (at + 1) _ _ _ (λ z. omega arith) (λ z. must-least (at + 1) _ _ _ (λ z. omega arith)
@@ -74,30 +80,30 @@ module _ (b : List ℕ) where
       (λ z. must-least (at + 1) _ _ _ (λ z. omega arith) (λ z. omega arith)))
 
   -- where nodes a level down are looked at from their places on
-  module _ (levels : ℕ) (stages : List ℕ) (own : ℕ) (below : (a : ℕ) → a ≤ length b → a ≤ looked (readNode levels stages own b a)) where
-    operands-least : (two : Bool) (place op at : ℕ) → at ≤ length b → at ≤ looked (operands two place op (readNode levels stages own b) at)
+  module _ (levels : ℕ) (stages : List ℕ) (own : ℕ) (below : (a : ℕ) → a ≤ length b → a ≤ looked (readNode plain levels stages own b a)) where
+    operands-least : (two : Bool) (place op at : ℕ) → at ≤ length b → at ≤ looked (operands two place op (readNode plain levels stages own b) at)
     unfolding operands looked thenRead
-    operands-least false place op at l = let e = looked-as (unary place op) (readNode levels stages own b at) in omega (arith, e, below at l)
-    operands-least true place op at l = go (readNode levels stages own b at) refl (below at l)
+    operands-least false place op at l = let e = looked-as (unary place op) (readNode plain levels stages own b at) in omega (arith, e, below at l)
+    operands-least true place op at l = go (readNode plain levels stages own b at) refl (below at l)
       where
-        go : (x : Read Expr) → readNode levels stages own b at ≡ x → at ≤ looked x
-            → at ≤ looked (thenRead x (λ u m. readAs (binary place op u) (readNode levels stages own b m)))
+        go : (x : Read Expr) → readNode plain levels stages own b at ≡ x → at ≤ looked x
+            → at ≤ looked (thenRead x (λ u m. readAs (binary place op u) (readNode plain levels stages own b m)))
         go (found u m) e h =
-            let w = node-ends levels stages own b at u m e in
-            let k = looked-as (binary place op u) (readNode levels stages own b m) in
+            let w = node-ends plain levels stages own b at u m e in
+            let k = looked-as (binary place op u) (readNode plain levels stages own b m) in
             omega (arith, k, below m (w .1), w .0)
         go (refused k p) e h = h
 
-    tag-least : (g : Tag) (at : ℕ) → at + 1 ≤ length b → at + 1 ≤ looked (onTag g (readNode levels stages own b) stages own b at)
+    tag-least : (g : Tag) (at : ℕ) → at + 1 ≤ length b → at + 1 ≤ looked (onTag plain g (readNode plain levels stages own b) stages own b at)
     unfolding extent onTag readOperator looked
-    tag-least isLiteral at l = let e = looked-as literal (readLiteral false b at) in omega (arith, e, literal-least false at l)
+    tag-least isLiteral at l = let e = looked-as literal (readLiteral plain false b at) in omega (arith, e, literal-least false at l)
     tag-least isReference at l = reference-least stages own at l
     tag-least (isOperator two) at l =
         must-least (at + 1) _ _ _ (λ z. omega arith) (λ z. must-least (at + 1) _ _ _ (λ z. omega arith)
         (λ y. let w = operands-least two at (getD b (at + 1) 0) (at + 2) (leb-true (at + 2) (length b) z) in omega arith))
     tag-least unknown at l = omega arith
 
-  pub node-least : (levels : ℕ) (stages : List ℕ) (own at : ℕ) → at ≤ length b → at ≤ looked (readNode levels stages own b at)
+  pub node-least : (levels : ℕ) (stages : List ℕ) (own at : ℕ) → at ≤ length b → at ≤ looked (readNode plain levels stages own b at)
   unfolding extent readNode looked
   node-least zero stages own at l = omega arith
   node-least (suc levels) stages own at l =
@@ -109,6 +115,14 @@ abbrev pub Same : {A : Type 0} → (List ℕ → Read A) → List ℕ → List �
 Same f b c = Agree (looked (f b)) b c → f b ≡ f c
 
 module _ (b c : List ℕ) where
+  -- a number of n bytes
+  pub word-same : (n at : ℕ) → at + n ≤ length b → Agree (at + n) b c → whole (part b at n) ≡ whole (part c at n)
+  unfolding whole part
+  word-same zero at l a = refl
+  word-same (suc n) at l a =
+      let rest = word-same n (at + 1) (omega arith) (agree-less b c (at + 1 + n) (at + suc n) (omega arith) a) in
+      omega (arith, whole-part b at n, whole-part c at n, a at (omega arith) (omega arith), rest)
+
   as-same : {A B : Type 0} (f : A → B) (x y : Read A) → (Agree (looked x) b c → x ≡ y) → Agree (looked (readAs f x)) b c → readAs f x ≡ readAs f y
   as-same f x y h a = ap (readAs f) (h (subst (λ (n : ℕ). Agree n b c) (looked-as f x) a))
 
@@ -139,25 +153,21 @@ module _ (b c : List ℕ) (len : length b ≡ length c) where
   byte-same n g h k p x y t l m f = test-same (λ z. Unit) b c n g h k p x y t l m (λ z u. f z) tt
 
   -- ---- components
-  word-same : (n at : ℕ) → at + n ≤ length b → Agree (at + n) b c → leWord n b at ≡ leWord n c at
-  word-same zero at l a = refl
-  word-same (suc n) at l a = rw (a at (omega arith) (omega arith), word-same n (at + 1) (omega arith) (agree-less b c (at + 1 + n) (at + suc n) (omega arith) a))
+  numbers-same : (n at : ℕ) → at + 8 * n ≤ length b → Agree (at + 8 * n) b c → numbers n b at ≡ numbers n c at
+  unfolding numbers
+  numbers-same zero at l a = refl
+  numbers-same (suc n) at l a =
+      let first = word-same b c 8 at (omega arith) (agree-less b c (at + 8) (at + 8 * suc n) (omega arith) a) in
+      let rest = numbers-same n (at + 8) (omega arith) (agree-less b c (at + 8 + 8 * n) (at + 8 * suc n) (omega arith) a) in
+      ap (λ (w : ℕ). w ∷ numbers n b (at + 8)) first ∙ ap {B = List ℕ} (λ (l : List ℕ). whole (part c at 8) ∷ l) rest
 
   proper-same : (ty n at : ℕ) → at + 8 * n ≤ length b → Agree (at + 8 * n) b c → allProper ty n b at ≡ allProper ty n c at
   unfolding allProper
-  proper-same ty zero at l a = refl
-  proper-same ty (suc n) at l a =
-      let first = word-same 8 at (omega arith) (agree-less b c (at + 8) (at + 8 * suc n) (omega arith) a) in
-      let rest = proper-same ty n (at + 8) (omega arith) (agree-less b c (at + 8 + 8 * n) (at + 8 * suc n) (omega arith) a) in
-      ap (λ (w : ℕ). pick (properOf ty w) (allProper ty n b (at + 8)) false) first ∙ ap (λ (g : Bool). pick (properOf ty (leWord 8 c at)) g false) rest
+  proper-same ty n at l a = ap (every (properOf ty)) (numbers-same n at l a)
 
   components-same : (ty n at : ℕ) → at + 8 * n ≤ length b → Agree (at + 8 * n) b c → components ty n b at ≡ components ty n c at
   unfolding components
-  components-same ty zero at l a = refl
-  components-same ty (suc n) at l a =
-      let first = word-same 8 at (omega arith) (agree-less b c (at + 8) (at + 8 * suc n) (omega arith) a) in
-      let rest = components-same ty n (at + 8) (omega arith) (agree-less b c (at + 8 + 8 * n) (at + 8 * suc n) (omega arith) a) in
-      ap (λ (w : ℕ). keptOf ty w ∷ components ty n b (at + 8)) first ∙ ap {B = List ℕ} (λ (l : List ℕ). keptOf ty (leWord 8 c at) ∷ l) rest
+  components-same ty n at l a = ap (map (keptOf ty)) (numbers-same n at l a)
 
   -- ---- a literal
   read-same : (ty cols rows n at : ℕ) → n ≤ 16 → Same (λ (s : List ℕ). readComponents (record { ty = ty; cols = cols; rows = rows }) n s at) b c
@@ -169,13 +179,13 @@ module _ (b c : List ℕ) (len : length b ≡ length c) where
       ap (λ (k : List ℕ). found (record { ty = ty; cols = cols; rows = rows; comps = k ++ replicate (16 - n) 0 }) (at + 4 + 8 * n))
       (components-same ty n (at + 4) l a)))
 
-  literal-same : (only : Bool) (at : ℕ) → Same (λ (s : List ℕ). readLiteral only s at) b c
+  literal-same : (only : Bool) (at : ℕ) → Same (λ (s : List ℕ). readLiteral plain only s at) b c
   unfolding extent readLiteral
   literal-same only at =
       cut-same at 4 _ _ (λ l.
-      byte-same (at + 4) _ _ 26 at _ _ (λ a. λ i. literalOk only (heads l a i)) (omega arith) (λ z. components-least b at l)
+      byte-same (at + 4) _ _ 26 at _ _ (λ a. λ i. literalOk plain only (heads l a i)) (omega arith) (λ z. components-least b at l)
       (λ z a.
-      read-same (getD b (at + 1) 0) (getD b (at + 2) 0) (getD b (at + 3) 0) (literalCount b at) at (literal-small only (literalHead b at) z) a
+      read-same (getD b (at + 1) 0) (getD b (at + 2) 0) (getD b (at + 3) 0) (literalCount b at) at (literal-small plain only (literalHead b at) z) a
       ∙ moved l (agree-less b c (at + 4) _ (components-least b at l) a)))
     where
       heads : at + 4 ≤ length b → Agree (at + 4) b c → literalHead b at ≡ literalHead c at
@@ -205,16 +215,16 @@ module _ (b c : List ℕ) (len : length b ≡ length c) where
 
   -- ---- a node
   -- where nodes a level down are alike
-  module _ (levels : ℕ) (stages : List ℕ) (own : ℕ) (below : (a : ℕ) → a ≤ length b → Same (λ (s : List ℕ). readNode levels stages own s a) b c) where
-    operands-same : (two : Bool) (place op at : ℕ) → at ≤ length b → Same (λ (s : List ℕ). operands two place op (readNode levels stages own s) at) b c
+  module _ (levels : ℕ) (stages : List ℕ) (own : ℕ) (below : (a : ℕ) → a ≤ length b → Same (λ (s : List ℕ). readNode plain levels stages own s a) b c) where
+    operands-same : (two : Bool) (place op at : ℕ) → at ≤ length b → Same (λ (s : List ℕ). operands two place op (readNode plain levels stages own s) at) b c
     unfolding operands
     operands-same false place op at l = as-same b c (unary place op) _ _ (below at l)
     operands-same true place op at l =
         then-same b c _ _ _ _ (below at l)
-        (λ u m e. omega (arith, node-least b levels stages own m (node-ends levels stages own b at u m e .1), looked-as (binary place op u) (readNode levels stages own b m)))
-        (λ u m e. as-same b c (binary place op u) _ _ (below m (node-ends levels stages own b at u m e .1)))
+        (λ u m e. omega (arith, node-least b levels stages own m (node-ends plain levels stages own b at u m e .1), looked-as (binary place op u) (readNode plain levels stages own b m)))
+        (λ u m e. as-same b c (binary place op u) _ _ (below m (node-ends plain levels stages own b at u m e .1)))
 
-    tag-same : (g : Tag) (at : ℕ) → at + 1 ≤ length b → Same (λ (s : List ℕ). onTag g (readNode levels stages own s) stages own s at) b c
+    tag-same : (g : Tag) (at : ℕ) → at + 1 ≤ length b → Same (λ (s : List ℕ). onTag plain g (readNode plain levels stages own s) stages own s at) b c
     unfolding extent onTag readOperator
     tag-same isLiteral at l = as-same b c literal _ _ (literal-same false at)
     tag-same isReference at l = reference-same stages own at
@@ -223,42 +233,39 @@ module _ (b c : List ℕ) (len : length b ≡ length c) where
         byte-same (at + 2) _ _ 25 at _ _ (λ a. ap (operatorKnown two) (second at h a)) (omega arith) (λ z. least h)
         (λ z a.
         operands-same two at (getD b (at + 1) 0) (at + 2) h a
-        ∙ ap (λ (op : ℕ). operands two at op (readNode levels stages own c) (at + 2)) (second at h (agree-less b c (at + 2) _ (least h) a))))
+        ∙ ap (λ (op : ℕ). operands two at op (readNode plain levels stages own c) (at + 2)) (second at h (agree-less b c (at + 2) _ (least h) a))))
       where
-        least : at + 2 ≤ length b → at + 2 ≤ looked (operands two at (getD b (at + 1) 0) (readNode levels stages own b) (at + 2))
+        least : at + 2 ≤ length b → at + 2 ≤ looked (operands two at (getD b (at + 1) 0) (readNode plain levels stages own b) (at + 2))
         least h = operands-least b levels stages own (λ k. node-least b levels stages own k) two at (getD b (at + 1) 0) (at + 2) h
     tag-same unknown at l = λ a. refl
 
-  node-same : (levels : ℕ) (stages : List ℕ) (own at : ℕ) → at ≤ length b → Same (λ (s : List ℕ). readNode levels stages own s at) b c
+  node-same : (levels : ℕ) (stages : List ℕ) (own at : ℕ) → at ≤ length b → Same (λ (s : List ℕ). readNode plain levels stages own s at) b c
   unfolding readNode
   node-same zero stages own at l = λ a. refl
   node-same (suc levels) stages own at l =
       cut-same at 1 _ _ (λ h a.
       tag-same levels stages own (node-same levels stages own) (tagOf (getD b at 0)) at h a
-      ∙ ap (λ (x : ℕ). onTag (tagOf x) (readNode levels stages own c) stages own c at)
+      ∙ ap (λ (x : ℕ). onTag plain (tagOf x) (readNode plain levels stages own c) stages own c at)
       (a at (omega (arith, tag-least b levels stages own (λ k. node-least b levels stages own k) (tagOf (getD b at 0)) at h)) (omega arith)))
 
   -- ---- a body
-  setting-same : Same readSetting b c
+  setting-same : Same (readSetting plain) b c
   unfolding extent readSetting looked
   setting-same =
       cut-same 0 1 _ _ (λ l.
       byte-same 1 _ _ 25 0 _ _ (λ a. ap (λ (k : ℕ). eqb k 1) (a 0 (omega arith) (omega arith))) (omega arith)
-      (λ z. omega (arith, literal-least b true 0 l, looked-as setting (readLiteral true b 0)))
+      (λ z. omega (arith, literal-least b true 0 l, looked-as setting (readLiteral plain true b 0)))
       (λ z. as-same b c setting _ _ (literal-same true 0)))
 
-  expression-same : (stages : List ℕ) (stage : ℕ) → Same (readExpression stages stage) b c
-  unfolding readExpression
-  expression-same stages stage = go (eqb stage 3)
-    where
-      go : (g : Bool) → Same (λ (s : List ℕ). pick g (readSetting s) (readAs (expression stage) (readNode 32 stages stage s 0))) b c
-      go true = setting-same
-      go false = as-same b c (expression stage) _ _ (node-same 32 stages stage 0 (omega arith))
+  kind-same : (k : Kind) (stages : List ℕ) (stage : ℕ) → Same (readKind plain k stages stage) b c
+  unfolding readKind
+  kind-same Setting stages stage = setting-same
+  kind-same Expression stages stage = as-same b c (expression stage) _ _ (node-same 32 stages stage 0 (omega arith))
 
   -- what is left over is judged by the length
-  pub body-same : (stages : List ℕ) (stage : ℕ) → Same (readBody stages stage) b c
+  pub body-same : (stages : List ℕ) (stage : ℕ) → Same (readBody plain stages stage) b c
   unfolding extent readBody looked
   body-same stages stage =
-      then-same b c _ _ _ _ (expression-same stages stage)
+      then-same b c _ _ _ _ (kind-same (kindOf stage) stages stage)
       (λ e n q. must-least n (leb (length b) n) (refused No.Leftover n) (found e n) (λ z. omega arith) (λ z. omega arith))
       (λ e n q a. ap (λ (k : ℕ). must (leb k n) (refused No.Leftover n) (found e n)) len)

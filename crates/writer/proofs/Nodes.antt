@@ -9,19 +9,19 @@ use lib.Dec.{leb, eqb}
 use lib.ListN.{length, getD, replicate, length-append, length-replicate, List·getD-append}
 use lib.Seq.{take-at}
 use borrow.Author.Tests.{leb-true, ltb-true, eqb-true, eqb-false}
-use Rattle.value.specs.Pattern.{pick, properOf, keptOf}
+use Rattle.types.specs.Edition.{plain}
+use Rattle.value.specs.Pattern.{properOf, keptOf}
 use Rattle.operand.specs.declared.Instance.{Instance}
-use Rattle.operand.specs.Operand.{shapeOk, shapeOf, inShape}
-use Rattle.operand.proofs.Tests.{both}
-use Rattle.operand.proofs.Shapes.{shape-small, count-small}
-use Rattle.slot.specs.Bytes.{lows}
-use Rattle.slot.specs.Slot.{eights}
-use Rattle.slot.proofs.Lows.{lows-long}
-use Rattle.sheet.specs.Read.{found}
+use Rattle.operand.specs.Operand.{shapeOk, shapeIn, shapeOf, inShape, every}
+use Rattle.low.proofs.Tests.{both}
+use Rattle.operand.proofs.Shapes.{shape-small, shape-in, count-small}
+use Rattle.low.specs.Bytes.{lows, whole, part, numbers, eights}
+use Rattle.low.proofs.Lows.{lows-long}
+use Rattle.low.specs.Read.{found}
 use Rattle.sheet.specs.Tree.{Expr, literal, reference, unary, binary}
-use Rattle.sheet.specs.Node.{leWord, allProper, components, valueAt, literalOk, readLiteral, readReference, operatorKnown, operands, readOperator}
+use Rattle.sheet.specs.Node.{allProper, components, valueAt, literalOk, readLiteral, readReference, operatorKnown, operands, readOperator}
 use Rattle.sheet.specs.Node.{Tag, isReference, isOperator, tagOf, onTag, readNode}
-use Rattle.sheet.proofs.Reading.{must-found, then-found, as-found}
+use Rattle.low.proofs.Reading.{must-found, then-found, as-found}
 use Rattle.sheet.proofs.Nodes.{node-at}
 use Rattle.sheet.proofs.Inverse.{some-level, tag-there, tag-four, literal-read}
 use Rattle.writer.specs.Write.{writeLiteral, writeNode, WritableValue, depth, WritableNode, settledValue, settledNode, Bytes}
@@ -36,43 +36,39 @@ record EightsFrom (ty n : ℕ) (b : List ℕ) (at : ℕ) : Type 0 where
   same : map (keptOf ty) raw ≡ components ty n b at
   lies : (rest : List ℕ) → Lies b at (eights n (raw ++ rest))
 
-both-found : (x y : Bool) → pick x y false ≡ true → (x ≡ true) × (y ≡ true)
-both-found true y e = (refl, e)
-both-found false y e = absurd (false≢true e)
-
 first-more : (ty n x : ℕ) (xs : List ℕ) → properOf ty x ≡ true → Proper ty n xs → Proper ty (suc n) (x ∷ xs)
 first-more ty n x xs p g zero h = p
 first-more ty n x xs p g (suc i) h = g i (omega arith)
 
 eights-from : (ty n : ℕ) (b : List ℕ) (at : ℕ) → Bytes b → at + 8 * n ≤ length b → allProper ty n b at ≡ true → EightsFrom ty n b at
-unfolding allProper components eights
+unfolding allProper every components numbers eights
 eights-from ty zero b at h l p = record { raw = []; count = refl; proper = λ i k. absurd (omega arith); same = refl; lies = λ rest. lies-none b at (omega arith) }
 eights-from ty (suc n) b at h l p =
-    let q = both-found (properOf ty (leWord 8 b at)) (allProper ty n b (at + 8)) p in
+    let q = both (properOf ty (whole (part b at 8))) (allProper ty n b (at + 8)) p in
     let w = eights-from ty n b (at + 8) h (omega arith) (q .1) in
     let x = word-there 8 b at h (omega arith) in
-    let e : at + 8 ≡ at + length (lows 8 (leWord 8 b at)) = ap (λ (k : ℕ). at + k) (sym (lows-long 8 (leWord 8 b at))) in
+    let e : at + 8 ≡ at + length (lows 8 (whole (part b at 8))) = ap (λ (k : ℕ). at + k) (sym (lows-long 8 (whole (part b at 8)))) in
     record {
-      raw = leWord 8 b at ∷ w .raw;
+      raw = whole (part b at 8) ∷ w .raw;
       count = ap suc (w .count);
-      proper = first-more ty n (leWord 8 b at) (w .raw) (q .0) (w .proper);
-      same = ap {B = List ℕ} (λ (k : List ℕ). keptOf ty (leWord 8 b at) ∷ k) (w .same);
+      proper = first-more ty n (whole (part b at 8)) (w .raw) (q .0) (w .proper);
+      same = ap {B = List ℕ} (λ (k : List ℕ). keptOf ty (whole (part b at 8)) ∷ k) (w .same);
       lies = λ rest.
-          lies-join b at (lows 8 (leWord 8 b at)) (eights n (w .raw ++ rest)) (x .1) (lies-at b (at + 8) _ (eights n (w .raw ++ rest)) e (w .lies rest));
+          lies-join b at (lows 8 (whole (part b at 8))) (eights n (w .raw ++ rest)) (x .1) (lies-at b (at + 8) _ (eights n (w .raw ++ rest)) e (w .lies rest));
     }
 
 -- ---- a literal
 pub record LiteralFrom (only : Bool) (b : List ℕ) (at : ℕ) (v : Instance) (n : ℕ) : Type 0 where
   pub raw : Instance
   pub value : WritableValue raw
-  pub fits : literalOk only (record { ty = raw .ty; cols = raw .cols; rows = raw .rows }) ≡ true
+  pub fits : literalOk plain only (record { ty = raw .ty; cols = raw .cols; rows = raw .rows }) ≡ true
   pub same : settledValue raw ≡ v
   pub lies : Lies b at (writeLiteral raw)
   pub next : n ≡ at + length (writeLiteral raw)
 
 -- its four bytes and its components, given
 module _ (only : Bool) (b : List ℕ) (at ty cols rows : ℕ) (w : EightsFrom ty (cols * rows) b (at + 4))
-    (ok : literalOk only (record { ty = ty; cols = cols; rows = rows }) ≡ true) where
+    (ok : literalOk plain only (record { ty = ty; cols = cols; rows = rows }) ≡ true) where
   abbrev zeros : List ℕ
   zeros = replicate (16 - cols * rows) 0
 
@@ -80,7 +76,7 @@ module _ (only : Bool) (b : List ℕ) (at ty cols rows : ℕ) (w : EightsFrom ty
   raw-literal = inShape ty (record { cols = cols; rows = rows }) (w .raw ++ zeros)
 
   shape : shapeOk ty cols rows ≡ true
-  shape = both (shapeOk ty cols rows) _ ok .0
+  shape = sym (shape-in plain ty cols rows) ∙ both (shapeIn plain ty cols rows) _ ok .0
 
   raw-value : WritableValue raw-literal
   raw-value =
@@ -107,7 +103,7 @@ module _ (only : Bool) (b : List ℕ) (at ty cols rows : ℕ) (w : EightsFrom ty
       let w₂ : Lies b (at + 1 + 1) (cols ∷ rows ∷ xs) = lies-at b (at + 2) (at + 1 + 1) _ (omega arith) (lies-cons b (at + 2) cols _ (omega arith) e₂ w₃) in
       lies-cons b at 1 _ (omega arith) e₀ (lies-cons b (at + 1) ty _ (omega arith) e₁ w₂)
 
-pub literal-from : (only : Bool) (b : List ℕ) (at : ℕ) (v : Instance) (n : ℕ) → Bytes b → getD b at 0 ≡ 1 → readLiteral only b at ≡ found v n
+pub literal-from : (only : Bool) (b : List ℕ) (at : ℕ) (v : Instance) (n : ℕ) → Bytes b → getD b at 0 ≡ 1 → readLiteral plain only b at ≡ found v n
     → LiteralFrom only b at v n
 unfolding readLiteral
 literal-from only b at v n h tag e =
@@ -143,7 +139,7 @@ pub record NodeFrom (levels : ℕ) (stages : List ℕ) (own : ℕ) (b : List ℕ
 
 -- the operands' own, a level down
 abbrev Below : ℕ → List ℕ → ℕ → List ℕ → Type 0
-Below levels stages own b = (a : ℕ) (u : Expr) (m : ℕ) → readNode levels stages own b a ≡ found u m → NodeFrom levels stages own b a u m
+Below levels stages own b = (a : ℕ) (u : Expr) (m : ℕ) → readNode plain levels stages own b a ≡ found u m → NodeFrom levels stages own b a u m
 
 -- the numbers that an operator can have
 known-from : (two : Bool) (op : ℕ) → operatorKnown two op ≡ true → (1 ≤ op) × (op ≤ 18) × (two ≡ false → op ≤ 3)
@@ -158,19 +154,19 @@ known-from two op e =
     go false false q h = absurd (false≢true h)
 
 module _ (levels : ℕ) (stages : List ℕ) (own : ℕ) (b : List ℕ) (at : ℕ) (t : Expr) (n : ℕ) (bytes : Bytes b)
-    (e : readNode (suc levels) stages own b at ≡ found t n) where
+    (e : readNode plain (suc levels) stages own b at ≡ found t n) where
   here : at < length b
-  here = tag-there (suc levels) stages own b at t n e
+  here = tag-there plain (suc levels) stages own b at t n e
 
-  by-tag : (g : Tag) → tagOf (getD b at 0) ≡ g → onTag g (readNode levels stages own b) stages own b at ≡ found t n
+  by-tag : (g : Tag) → tagOf (getD b at 0) ≡ g → onTag plain g (readNode plain levels stages own b) stages own b at ≡ found t n
   by-tag g q =
-      ap (λ (k : ℕ). onTag g (readNode k stages own b) stages own b at) (sym (sub-one (suc levels)))
-      ∙ sym (node-at (suc levels) stages own b at (some-level (suc levels) stages own b at t n e) (omega (arith, here)) g q) ∙ e
+      ap (λ (k : ℕ). onTag plain g (readNode plain k stages own b) stages own b at) (sym (sub-one (suc levels)))
+      ∙ sym (node-at plain (suc levels) stages own b at (some-level plain (suc levels) stages own b at t n e) (omega (arith, here)) g q) ∙ e
 
   from-literal : getD b at 0 ≡ 1 → NodeFrom (suc levels) stages own b at t n
   unfolding onTag tagOf WritableNode depth settledNode writeNode
   from-literal q =
-      let m = literal-read (suc levels) stages own b at t n e q in
+      let m = literal-read plain (suc levels) stages own b at t n e q in
       let w = literal-from false b at (m .0) n bytes q (m .1) in
       record { raw = literal (w .raw); node = w .value; deep = omega arith; same = ap literal (w .same) ∙ sym (m .2); lies = w .lies; next = w .next }
 
@@ -196,7 +192,7 @@ module _ (levels : ℕ) (stages : List ℕ) (own : ℕ) (b : List ℕ) (at : ℕ
   -- an operator byte, and its operands
   operator-from : (two : Bool) → tagOf (getD b at 0) ≡ isOperator two
       → (at + 2 ≤ length b) × (operatorKnown two (getD b (at + 1) 0) ≡ true)
-      × (operands two at (getD b (at + 1) 0) (readNode levels stages own b) (at + 2) ≡ found t n)
+      × (operands two at (getD b (at + 1) 0) (readNode plain levels stages own b) (at + 2) ≡ found t n)
   unfolding onTag readOperator
   operator-from two q =
       let a = must-found _ _ _ _ t n (by-tag (isOperator two) q) in
@@ -210,7 +206,7 @@ module _ (levels : ℕ) (stages : List ℕ) (own : ℕ) (b : List ℕ) (at : ℕ
   unfolding tagOf operands WritableNode depth settledNode writeNode
   from-unary q ih =
       let o = operator-from false (ap tagOf q) in
-      let m = as-found (unary at (getD b (at + 1) 0)) (readNode levels stages own b (at + 2)) t n (o .2) in
+      let m = as-found (unary at (getD b (at + 1) 0)) (readNode plain levels stages own b (at + 2)) t n (o .2) in
       let w = ih (at + 2) (m .0) n (m .1) in
       let k = known-from false (getD b (at + 1) 0) (o .1) in
       record {
@@ -245,7 +241,7 @@ module _ (levels : ℕ) (stages : List ℕ) (own : ℕ) (b : List ℕ) (at : ℕ
       }
 
 pub node-from : (levels : ℕ) (stages : List ℕ) (own : ℕ) (b : List ℕ) → Bytes b → Below levels stages own b
-node-from zero stages own b bytes at t n e = absurd (some-level 0 stages own b at t n e refl)
+node-from zero stages own b bytes at t n e = absurd (some-level plain 0 stages own b at t n e refl)
 node-from (suc levels) stages own b bytes at t n e =
     go (eqb (getD b at 0) 1) (eqb (getD b at 0) 2) (eqb (getD b at 0) 3) refl refl refl (node-from levels stages own b bytes)
   where
@@ -255,5 +251,5 @@ node-from (suc levels) stages own b bytes at t n e =
     go false true z p q r ih = from-reference levels stages own b at t n bytes e (eqb-true _ _ q)
     go false false true p q r ih = from-unary levels stages own b at t n bytes e (eqb-true _ _ r) ih
     go false false false p q r ih =
-        let four = tag-four (suc levels) stages own b at t n e (eqb-false _ _ p) (eqb-false _ _ q) (eqb-false _ _ r) in
+        let four = tag-four plain (suc levels) stages own b at t n e (eqb-false _ _ p) (eqb-false _ _ q) (eqb-false _ _ r) in
         from-binary levels stages own b at t n bytes e four ih

@@ -1,6 +1,6 @@
 -- A sheet that was written is read back: what the reader makes of the bytes of entries is those entries, settled.
 use mathlib.Core.Path.{_≡_, refl, sym, ap, subst, _∙_}
-use mathlib.Core.Bool.{Bool, true, false, _&&_, or-true}
+use mathlib.Core.Bool.{Bool, true, false, or-true}
 use mathlib.Core.List.{List, [], _∷_, _++_, map, map-append, append-assoc, append-nil}
 use Prim.Native.Nat.{ℕ, zero, suc, _+_, _*_, _-_, _/_, _%_, _^_, _<_, _≤_}
 use native.Mathlib.Omega.{arith}
@@ -8,33 +8,35 @@ use lib.Dec.{leb}
 use lib.ListN.{length, getD, take, replicate, length-append}
 use borrow.Author.Tests.{le-leb, eq-eqb, ne-eqb}
 use Rattle.types.specs.Types.{widthOf}
+use Rattle.types.specs.Edition.{plain}
 use Rattle.types.proofs.Rows.{by-code}
-use Rattle.value.specs.Pattern.{pick, properOf, keptOf}
+use Rattle.value.specs.Pattern.{properOf, keptOf}
 use Rattle.value.proofs.Widths.{proper-below}
 use Rattle.value.specs.Refusals as No
 use Rattle.operand.specs.declared.Instance.{Instance}
-use Rattle.operand.specs.Operand.{shapeOf, inShape, componentCount}
-use Rattle.operand.proofs.Tests.{both-true}
-use Rattle.operand.proofs.Shapes.{shape-small, count-small}
-use Rattle.slot.specs.Bytes.{lows}
-use Rattle.slot.specs.Slot.{eights}
-use Rattle.slot.proofs.Lows.{lows-long}
-use Rattle.slot.proofs.Slots.{eights-long}
+use Rattle.operand.specs.Operand.{shapeOf, inShape, componentCount, shapeIn, every}
+use Rattle.low.proofs.Tests.{both-true}
+use Rattle.operand.proofs.Shapes.{shape-small, shape-in, count-small}
+use Rattle.low.specs.Bytes.{lows, whole, part, numbers, eights}
+use Rattle.low.proofs.Lows.{lows-long}
+use Rattle.low.proofs.Eights.{eights-long}
 use Rattle.sheet.specs.declared.Head.{Head}
 use Rattle.sheet.specs.declared.Head.the-variants as head
-use Rattle.sheet.specs.Read.{Read, found, refused, must, thenRead, readAs, placedFrom}
+use Rattle.low.specs.Read.{Read, found, refused, must, thenRead, readAs, placedFrom}
 use Rattle.sheet.specs.Tree.{Expr, literal, reference, unary, binary, Entry, setting, expression, entryStage}
-use Rattle.sheet.specs.Node.{leWord, allProper, components, literalHead, valueAt, literalOk, readLiteral, operatorKnown, operands, readOperator}
+use Rattle.sheet.specs.Node.{allProper, components, literalHead, valueAt, literalOk, readLiteral, operatorKnown, operands, readOperator}
 use Rattle.sheet.specs.Node.{Tag, isLiteral, isReference, isOperator, tagOf, onTag, readNode}
-use Rattle.sheet.specs.Record.{readHead, readSetting, readExpression, readBody, onHead, readRecord}
-use Rattle.sheet.specs.Sheet.{readRecords, readSheet}
-use Rattle.sheet.proofs.Reading.{must-is}
+use Rattle.sheet.specs.declared.Kind.{Kind}
+use Rattle.sheet.specs.declared.Kind.the-variants.{Expression}
+use Rattle.sheet.specs.Stage.{stageKnown, kindOf}
+use Rattle.sheet.specs.Record.{bodyLen, readHead, readSetting, readKind, readBody, onHead, readRecord}
+use Rattle.sheet.specs.Sheet.{sheetOf, readRecords, readFrom, readSheet}
+use Rattle.low.proofs.Reading.{must-is}
 use Rattle.sheet.proofs.Nodes.{node-at, reference-good}
-use Rattle.sheet.proofs.Records.{body-inside, head-record}
+use Rattle.sheet.proofs.Records.{head-record}
 use Rattle.sheet.proofs.Sheets.{records-end, records-next}
 use Rattle.writer.specs.Write.{writeLiteral, writeNode, writeBody, stageByte, writeRecord, writeSheet}
-use Rattle.writer.specs.Write.{WritableValue, WritableSetting, depth, WritableNode, WritableEntry, WritableEntries, Writable}
-use Rattle.writer.specs.Write.{settledValue, settledNode, settledEntry, settled}
+use Rattle.writer.specs.Write.{WritableValue, WritableSetting, depth, WritableNode, WritableEntry, WritableEntries, Writable, settledValue, settledNode, settledEntry, settled}
 use Rattle.writer.proofs.Lying.{Lies, all-lies, lies-end, lies-left, lies-right, lies-at, lies-first, lies-rest, lies-part, word-lies}
 
 -- the same thing, its end said in another way
@@ -56,7 +58,7 @@ proper-small ty x p = omega (arith, proper-below ty x p, wide ty)
 
 -- one of 8 bytes, and those after it
 module _ (n x : ℕ) (xs b : List ℕ) (at : ℕ) (s : Lies b at (eights (suc n) (x ∷ xs))) where
-  eight-first : x < 256 ^ 8 → leWord 8 b at ≡ x
+  eight-first : x < 256 ^ 8 → whole (part b at 8) ≡ x
   unfolding eights
   eight-first h = word-lies 8 x b at h (lies-left b at (lows 8 x) (eights n xs) s)
 
@@ -64,24 +66,27 @@ module _ (n x : ℕ) (xs b : List ℕ) (at : ℕ) (s : Lies b at (eights (suc n)
   unfolding eights
   eight-rest = lies-at b (at + length (lows 8 x)) (at + 8) (eights n xs) (ap (λ (k : ℕ). at + k) (lows-long 8 x)) (lies-right b at (lows 8 x) (eights n xs) s)
 
-both-proper : (ty w x : ℕ) (rest : Bool) → w ≡ x → properOf ty x ≡ true → rest ≡ true → pick (properOf ty w) rest false ≡ true
-both-proper ty w x rest e p r = ap (λ (y : ℕ). pick (properOf ty y) rest false) e ∙ ap (λ (g : Bool). pick g rest false) p ∙ r
+eights-numbers : (ty n : ℕ) (xs b : List ℕ) (at : ℕ) → n ≤ length xs → Lies b at (eights n xs) → Proper ty n xs → numbers n b at ≡ take n xs
+unfolding numbers
+eights-numbers ty zero xs b at l s g = refl
+eights-numbers ty (suc n) [] b at l s g = absurd (omega arith)
+eights-numbers ty (suc n) (x ∷ xs) b at l s g =
+    ap (λ (w : ℕ). w ∷ numbers n b (at + 8)) (eight-first n x xs b at s (proper-small ty x (g 0 (omega arith))))
+    ∙ ap {B = List ℕ} (λ (l : List ℕ). x ∷ l) (eights-numbers ty n xs b (at + 8) (omega arith) (eight-rest n x xs b at s) (λ i h. g (suc i) (omega arith)))
+
+taken-proper : (ty n : ℕ) (xs : List ℕ) → n ≤ length xs → Proper ty n xs → every (properOf ty) (take n xs) ≡ true
+unfolding every
+taken-proper ty zero xs l g = refl
+taken-proper ty (suc n) [] l g = absurd (omega arith)
+taken-proper ty (suc n) (x ∷ xs) l g = both-true _ _ (g 0 (omega arith)) (taken-proper ty n xs (omega arith) (λ i h. g (suc i) (omega arith)))
 
 eights-proper : (ty n : ℕ) (xs b : List ℕ) (at : ℕ) → n ≤ length xs → Lies b at (eights n xs) → Proper ty n xs → allProper ty n b at ≡ true
 unfolding allProper
-eights-proper ty zero xs b at l s g = refl
-eights-proper ty (suc n) [] b at l s g = absurd (omega arith)
-eights-proper ty (suc n) (x ∷ xs) b at l s g =
-    both-proper ty (leWord 8 b at) x (allProper ty n b (at + 8)) (eight-first n x xs b at s (proper-small ty x (g 0 (omega arith)))) (g 0 (omega arith))
-    (eights-proper ty n xs b (at + 8) (omega arith) (eight-rest n x xs b at s) (λ i h. g (suc i) (omega arith)))
+eights-proper ty n xs b at l s g = ap (every (properOf ty)) (eights-numbers ty n xs b at l s g) ∙ taken-proper ty n xs l g
 
 eights-read : (ty n : ℕ) (xs b : List ℕ) (at : ℕ) → n ≤ length xs → Lies b at (eights n xs) → Proper ty n xs → components ty n b at ≡ map (keptOf ty) (take n xs)
 unfolding components
-eights-read ty zero xs b at l s g = refl
-eights-read ty (suc n) [] b at l s g = absurd (omega arith)
-eights-read ty (suc n) (x ∷ xs) b at l s g =
-    ap (λ (w : ℕ). keptOf ty w ∷ components ty n b (at + 8)) (eight-first n x xs b at s (proper-small ty x (g 0 (omega arith))))
-    ∙ ap {B = List ℕ} (λ (l : List ℕ). keptOf ty x ∷ l) (eights-read ty n xs b (at + 8) (omega arith) (eight-rest n x xs b at s) (λ i h. g (suc i) (omega arith)))
+eights-read ty n xs b at l s g = ap (map (keptOf ty)) (eights-numbers ty n xs b at l s g)
 
 -- ---- a literal
 -- whose four first bytes are known
@@ -89,16 +94,20 @@ module _ (only : Bool) (b : List ℕ) (at ty cols rows : ℕ) (t : getD b (at + 
   head-is : literalHead b at ≡ record { ty = ty; cols = cols; rows = rows }
   head-is = rw (t, c, r)
 
-  literal-is : at + 4 + 8 * (cols * rows) ≤ length b → literalOk only (record { ty = ty; cols = cols; rows = rows }) ≡ true
+  literal-is : at + 4 + 8 * (cols * rows) ≤ length b → literalOk plain only (record { ty = ty; cols = cols; rows = rows }) ≡ true
       → allProper ty (cols * rows) b (at + 4) ≡ true
-      → readLiteral only b at ≡ found (valueAt ty cols rows (cols * rows) b (at + 4)) (at + 4 + 8 * (cols * rows))
+      → readLiteral plain only b at ≡ found (valueAt ty cols rows (cols * rows) b (at + 4)) (at + 4 + 8 * (cols * rows))
   unfolding readLiteral
   literal-is l k p =
       must-is _ _ _ _ _ (le-leb (at + 4) (length b) (omega arith))
-      (must-is _ _ _ _ _ (ap (literalOk only) head-is ∙ k)
+      (must-is _ _ _ _ _ (ap (literalOk plain only) head-is ∙ k)
       (rw (t, c, r) (must-is _ _ _ _ _ (le-leb (at + 4 + 8 * (cols * rows)) (length b) l) (must-is _ _ _ _ _ p refl))))
 
 module _ (v : Instance) (g : WritableValue v) where
+  -- its type is one of the plain edition's
+  pub shape-fits : shapeIn plain (v .ty) (v .cols) (v .rows) ≡ true
+  shape-fits = shape-in plain (v .ty) (v .cols) (v .rows) ∙ g .shape
+
   pub count-few : componentCount (shapeOf v) ≤ length (v .comps)
   count-few = omega (arith, count-small (shapeOf v) (shape-small (v .ty) (v .cols) (v .rows) (g .shape)), g .sixteen)
 
@@ -106,8 +115,8 @@ module _ (v : Instance) (g : WritableValue v) where
   unfolding writeLiteral
   length-literal = omega (arith, eights-long (componentCount (shapeOf v)) (v .comps))
 
-  pub literal-back : (only : Bool) (b : List ℕ) (at : ℕ) → literalOk only (record { ty = v .ty; cols = v .cols; rows = v .rows }) ≡ true → Lies b at (writeLiteral v)
-      → readLiteral only b at ≡ found (settledValue v) (at + length (writeLiteral v))
+  pub literal-back : (only : Bool) (b : List ℕ) (at : ℕ) → literalOk plain only (record { ty = v .ty; cols = v .cols; rows = v .rows }) ≡ true → Lies b at (writeLiteral v)
+      → readLiteral plain only b at ≡ found (settledValue v) (at + length (writeLiteral v))
   unfolding writeLiteral settledValue
   literal-back only b at k s =
       let n = v .cols * v .rows in
@@ -127,9 +136,9 @@ module _ (v : Instance) (g : WritableValue v) where
 -- ---- a node
 -- by its tag, where a level is left
 tagged : (levels : ℕ) (stages : List ℕ) (own : ℕ) (b : List ℕ) (at x : ℕ) (xs : List ℕ) → Lies b at (x ∷ xs) → 1 ≤ levels → (g : Tag) → tagOf x ≡ g
-    → readNode levels stages own b at ≡ onTag g (readNode (levels - 1) stages own b) stages own b at
+    → readNode plain levels stages own b at ≡ onTag plain g (readNode plain (levels - 1) stages own b) stages own b at
 tagged levels stages own b at x xs s l g e =
-    node-at levels stages own b at (λ (z : levels ≡ 0). omega arith) (omega (arith, lies-end b at (x ∷ xs) s)) g (ap tagOf (lies-first b at x xs s) ∙ e)
+    node-at plain levels stages own b at (λ (z : levels ≡ 0). omega arith) (omega (arith, lies-end b at (x ∷ xs) s)) g (ap tagOf (lies-first b at x xs s) ∙ e)
 
 known-one : (op : ℕ) → 1 ≤ op → op ≤ 3 → operatorKnown false op ≡ true
 known-one op h k = simp (le-leb 1 op h, le-leb op 3 k)
@@ -155,11 +164,11 @@ unfolding writeLiteral
 opened v b at s = s
 
 node-back : (stages : List ℕ) (own : ℕ) (b : List ℕ) (t : Expr) (levels at : ℕ) → WritableNode stages own t → depth t ≤ levels → Lies b at (writeNode t)
-    → readNode levels stages own b at ≡ found (settledNode at t) (at + length (writeNode t))
+    → readNode plain levels stages own b at ≡ found (settledNode at t) (at + length (writeNode t))
 unfolding WritableNode depth writeNode settledNode tagOf onTag operands readAs thenRead
 node-back stages own b (literal v) levels at g d s =
     tagged levels stages own b at 1 _ (opened v b at s) d isLiteral refl
-    ∙ ap (readAs literal) (literal-back v g false b at (ap (λ (x : Bool). x && true) (g .shape)) s)
+    ∙ ap (readAs literal) (literal-back v g false b at (both-true _ _ (shape-fits v g) refl) s)
 node-back stages own b (reference k) levels at g d s =
     let e : getD b (at + 1) 0 ≡ k = lies-first b (at + 1) k [] (lies-rest b at 2 (k ∷ []) s) in
     tagged levels stages own b at 2 (k ∷ []) s d isReference refl
@@ -167,14 +176,14 @@ node-back stages own b (reference k) levels at g d s =
     ∙ ap (λ (j : ℕ). found (reference j) (at + 2)) e
 node-back stages own b (unary place op t) levels at g d s =
     tagged levels stages own b at 3 (op ∷ writeNode t) s (omega arith) (isOperator false) refl
-    ∙ operator-is false (readNode (levels - 1) stages own b) b at 3 op (writeNode t) s (known-one op (omega (arith, g .0)) (omega (arith, g .1)))
+    ∙ operator-is false (readNode plain (levels - 1) stages own b) b at 3 op (writeNode t) s (known-one op (omega (arith, g .0)) (omega (arith, g .1)))
     ∙ ap (readAs (unary at op)) (node-back stages own b t (levels - 1) (at + 2) (g .2) (omega arith) (after-two b at 3 op (writeNode t) s))
     ∙ ends _ (at + 2 + length (writeNode t)) (at + length (writeNode (unary place op t))) (omega arith)
 node-back stages own b (binary place op l r) levels at g d s =
     let u : Lies b (at + 2) (writeNode l ++ writeNode r) = after-two b at 4 op (writeNode l ++ writeNode r) s in
     tagged levels stages own b at 4 (op ∷ (writeNode l ++ writeNode r)) s (omega arith) (isOperator true) refl
-    ∙ operator-is true (readNode (levels - 1) stages own b) b at 4 op (writeNode l ++ writeNode r) s (known-two op (omega (arith, g .0)) (omega (arith, g .1)))
-    ∙ ap (λ (x : Read Expr). thenRead x (λ y m. readAs (binary at op y) (readNode (levels - 1) stages own b m)))
+    ∙ operator-is true (readNode plain (levels - 1) stages own b) b at 4 op (writeNode l ++ writeNode r) s (known-two op (omega (arith, g .0)) (omega (arith, g .1)))
+    ∙ ap (λ (x : Read Expr). thenRead x (λ y m. readAs (binary at op y) (readNode plain (levels - 1) stages own b m)))
     (node-back stages own b l (levels - 1) (at + 2) (g .2) (omega arith) (lies-left b (at + 2) (writeNode l) (writeNode r) u))
     ∙ ap (readAs (binary at op (settledNode (at + 2) l)))
     (node-back stages own b r (levels - 1) (at + 2 + length (writeNode l)) (g .3) (omega arith) (lies-right b (at + 2) (writeNode l) (writeNode r) u))
@@ -182,12 +191,16 @@ node-back stages own b (binary place op l r) levels at g d s =
     (omega (arith, length-append (writeNode l) (writeNode r)))
 
 -- ---- a body
-setting-fits : (v : Instance) → WritableSetting v → literalOk true (record { ty = v .ty; cols = v .cols; rows = v .rows }) ≡ true
-setting-fits v g = both-true _ _ (g .value .shape) (both-true _ _ (both-true _ _ (g .concrete) (eq-eqb (v .cols) 1 (g .column))) (eq-eqb (v .rows) 1 (g .row)))
+expression-kind : (stage : ℕ) → stage ≤ 2 → kindOf stage ≡ Expression
+unfolding kindOf
+expression-kind stage h = rw (ne-eqb stage 3 (λ (z : stage ≡ 3). omega arith))
+
+setting-fits : (v : Instance) → WritableSetting v → literalOk plain true (record { ty = v .ty; cols = v .cols; rows = v .rows }) ≡ true
+setting-fits v g = both-true _ _ (shape-fits v (g .value)) (both-true _ _ (both-true _ _ (g .concrete) (eq-eqb (v .cols) 1 (g .column))) (eq-eqb (v .rows) 1 (g .row)))
 
 expression-back : (stages : List ℕ) (e : Entry) → WritableEntry stages e
-    → readExpression stages (stageByte e) (writeBody e) ≡ found (settledEntry e) (length (writeBody e))
-unfolding WritableEntry stageByte writeBody settledEntry readExpression readSetting readAs
+    → readKind plain (kindOf (stageByte e)) stages (stageByte e) (writeBody e) ≡ found (settledEntry e) (length (writeBody e))
+unfolding WritableEntry stageByte writeBody settledEntry kindOf readKind readSetting readAs
 expression-back stages (setting v) g =
     let b = writeLiteral v in
     let s = opened v b 0 (all-lies b) in
@@ -196,11 +209,11 @@ expression-back stages (setting v) g =
     (ap (readAs setting) (literal-back v (g .value) true b 0 (setting-fits v g) (all-lies b)) ∙ ends _ (0 + length b) (length b) (omega arith)))
 expression-back stages (expression stage t) g =
     let b = writeNode t in
-    ap (λ (x : Bool). pick x (readSetting b) (readAs (expression stage) (readNode 32 stages stage b 0))) (ne-eqb stage 3 (λ (z : stage ≡ 3). omega (arith, g .0)))
+    ap (λ (k : Kind). readKind plain k stages stage b) (expression-kind stage (g .0))
     ∙ ap (readAs (expression stage)) (node-back stages stage b t 32 0 (g .2) (omega (arith, g .1)) (all-lies b))
     ∙ ends _ (0 + length b) (length b) (omega arith)
 
-body-back : (stages : List ℕ) (e : Entry) → WritableEntry stages e → readBody stages (stageByte e) (writeBody e) ≡ found (settledEntry e) (length (writeBody e))
+body-back : (stages : List ℕ) (e : Entry) → WritableEntry stages e → readBody plain stages (stageByte e) (writeBody e) ≡ found (settledEntry e) (length (writeBody e))
 unfolding readBody thenRead
 body-back stages e g =
     ap (λ (x : Read Entry). thenRead x (λ y n. must (leb (length (writeBody e)) n) (refused No.Leftover n) (found y n))) (expression-back stages e g)
@@ -217,7 +230,7 @@ unfolding writeRecord lows
 length-record e = omega arith
 
 record-back : (stages s : List ℕ) (at : ℕ) (e : Entry) → WritableEntry stages e → length (writeBody e) < 65536 → Lies s at (writeRecord e)
-    → readRecord stages s at ≡ found (settledEntry e) (at + length (writeRecord e))
+    → readRecord plain stages s at ≡ found (settledEntry e) (at + length (writeRecord e))
 unfolding readRecord writeRecord lows placedFrom
 record-back stages s at e g l w =
     let b = writeBody e in
@@ -228,13 +241,14 @@ record-back stages s at e g l w =
     let w₄ : Lies s (at + 4) (n / 256 % 256 ∷ b) = lies-at s (at + 3 + 1) (at + 4) _ (omega arith) (lies-rest s (at + 3) (n % 256) _ w₃) in
     let w₅ : Lies s (at + 5) b = lies-at s (at + 4 + 1) (at + 5) _ (omega arith) (lies-rest s (at + 4) (n / 256 % 256) _ w₄) in
     let k : getD s (at + 2) 0 ≡ stageByte e = lies-first s (at + 2) (stageByte e) _ w₂ in
-    let m : n ≡ getD s (at + 3) 0 + 256 * getD s (at + 4) 0 = omega (arith, lies-first s (at + 3) (n % 256) _ w₃, lies-first s (at + 4) (n / 256 % 256) _ w₄) in
+    let m : n ≡ bodyLen s at = sym (word-lies 2 n s (at + 3) l (lies-left s (at + 3) (n % 256 ∷ n / 256 % 256 ∷ []) b w₃)) in
     let f : at + 5 + n ≤ length s = lies-end s (at + 5) b w₅ in
+    let known : stageKnown (getD s (at + 2) 0) ≡ true = le-leb (getD s (at + 2) 0) 3 (omega (arith, stage-small stages e g)) in
     let mark = both-true _ _ (eq-eqb (getD s at 0) 213 (lies-first s at 213 _ w)) (eq-eqb (getD s (at + 1) 0) 23 (lies-first s (at + 1) 23 _ w₁)) in
     let h : readHead s at ≡ head.Record (stageByte e) (at + 5) n =
-    sym (head-record s at (omega arith) mark (omega (arith, stage-small stages e g)) n m f) ∙ ap (λ (x : ℕ). head.Record x (at + 5) n) k in
-    ap (λ (x : Head). onHead x stages s) h
-    ∙ ap (λ (x : List ℕ). placedFrom (at + 5) (readBody stages (stageByte e) x)) (sym (body-inside s (at + 5) n n refl f) ∙ lies-part s (at + 5) b w₅)
+    sym (head-record s at (omega arith) mark known n m f) ∙ ap (λ (x : ℕ). head.Record x (at + 5) n) k in
+    ap (λ (x : Head). onHead plain x stages s) h
+    ∙ ap (λ (x : List ℕ). placedFrom (at + 5) (readBody plain stages (stageByte e) x)) (lies-part s (at + 5) b w₅)
     ∙ ap (placedFrom (at + 5)) (body-back stages e g)
     ∙ ends _ (at + 5 + n) (at + length (writeRecord e)) (omega arith)
 
@@ -250,11 +264,11 @@ stages-more done x y e = ap (λ (k : ℕ). map entryStage done ++ k ∷ []) (sym
 
 -- records that were written are passed, from where they stand on
 pub records-pass : (s : List ℕ) (es done : List Entry) (room at : ℕ) → length s ≤ 16384 → WritableEntries (map entryStage done) es → length es ≤ room
-    → Lies s at (writeSheet es) → readRecords room s done at ≡ readRecords (room - length es) s (done ++ settled es) (at + length (writeSheet es))
+    → Lies s at (writeSheet es) → readRecords plain room s done at ≡ readRecords plain (room - length es) s (done ++ settled es) (at + length (writeSheet es))
 unfolding WritableEntries writeSheet
 records-pass s [] done room at short g few w =
-    ap (λ (k : ℕ). readRecords k s done at) (omega arith) ∙ ap (λ (l : List Entry). readRecords (room - 0) s l at) (sym (append-nil done))
-    ∙ ap (readRecords (room - 0) s (done ++ [])) (omega arith)
+    ap (λ (k : ℕ). readRecords plain k s done at) (omega arith) ∙ ap (λ (l : List Entry). readRecords plain (room - 0) s l at) (sym (append-nil done))
+    ∙ ap (readRecords plain (room - 0) s (done ++ [])) (omega arith)
 records-pass s (x ∷ es) done room at short g few w =
     let l = length-append (writeRecord x) (writeSheet es) in
     let r = length-record x in
@@ -262,22 +276,23 @@ records-pass s (x ∷ es) done room at short g few w =
     let n = at + length (writeRecord x) in
     let here = record-back (map entryStage done) s at x (g .0) (omega arith) (lies-left s at (writeRecord x) (writeSheet es) w) in
     let more = subst (λ (k : List ℕ). WritableEntries k es) (stages-more done x (settledEntry x) (stage-kept x)) (g .1) in
-    records-next room s done at (map entryStage done) (omega arith) (omega arith) refl (settledEntry x) n here
+    records-next plain room s done at (map entryStage done) (omega arith) (omega arith) refl (settledEntry x) n here
     ∙ records-pass s es (done ++ settledEntry x ∷ []) (room - 1) n short more (omega arith) (lies-right s at (writeRecord x) (writeSheet es) w)
-    ∙ ap (λ (k : ℕ). readRecords k s ((done ++ settledEntry x ∷ []) ++ settled es) (n + length (writeSheet es))) (omega arith)
-    ∙ ap (λ (k : List Entry). readRecords (room - suc (length es)) s k (n + length (writeSheet es))) (append-assoc done (settledEntry x ∷ []) (settled es))
-    ∙ ap (readRecords (room - suc (length es)) s (done ++ settledEntry x ∷ settled es)) (omega arith)
+    ∙ ap (λ (k : ℕ). readRecords plain k s ((done ++ settledEntry x ∷ []) ++ settled es) (n + length (writeSheet es))) (omega arith)
+    ∙ ap (λ (k : List Entry). readRecords plain (room - suc (length es)) s k (n + length (writeSheet es))) (append-assoc done (settledEntry x ∷ []) (settled es))
+    ∙ ap (readRecords plain (room - suc (length es)) s (done ++ settledEntry x ∷ settled es)) (omega arith)
 
 -- what was written is read back
-pub read-back : (es : List Entry) → Writable es → readSheet (writeSheet es) ≡ found (settled es) (length (writeSheet es))
-unfolding readSheet
+pub read-back : (es : List Entry) → Writable es → readSheet (writeSheet es) ≡ found (sheetOf plain 0 (settled es)) (length (writeSheet es))
+unfolding readSheet readFrom readAs
 read-back es g =
     let s = writeSheet es in
     must-is _ _ _ _ _ (le-leb (length s) 16384 (omega (arith, g .short)))
+    (ap (readAs (sheetOf plain 0))
     (records-pass s es [] 128 0 (omega (arith, g .short)) (g .each) (omega (arith, g .few)) (all-lies s)
-    ∙ records-end (128 - length es) s (settled es) (0 + length s) (omega arith)
-    ∙ ends (settled es) (0 + length s) (length s) (omega arith))
+    ∙ records-end plain (128 - length es) s (settled es) (0 + length s) (omega arith)
+    ∙ ends (settled es) (0 + length s) (length s) (omega arith)))
 
 -- and as it was, where every NaN is as kept, unused components are 0, and operators have the places that they are written at
-pub read-same : (es : List Entry) → Writable es → settled es ≡ es → readSheet (writeSheet es) ≡ found es (length (writeSheet es))
-read-same es g e = read-back es g ∙ ap (λ (k : List Entry). found k (length (writeSheet es))) e
+pub read-same : (es : List Entry) → Writable es → settled es ≡ es → readSheet (writeSheet es) ≡ found (sheetOf plain 0 es) (length (writeSheet es))
+read-same es g e = read-back es g ∙ ap (λ (k : List Entry). found (sheetOf plain 0 k) (length (writeSheet es))) e

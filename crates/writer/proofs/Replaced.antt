@@ -9,12 +9,10 @@ use lib.Seq.{take-at, drop-append-add, drop-append-seam, split-at, set-split}
 use Rattle.value.specs.Pattern.{properOf, keptOf}
 use Rattle.operand.specs.declared.Instance.{Instance}
 use Rattle.operand.specs.Operand.{shapeOk, aScalar}
-use Rattle.slot.specs.Bytes.{lows, patch}
-use Rattle.slot.specs.Slot.{eights}
-use Rattle.slot.proofs.Lows.{lows-long}
+use Rattle.low.specs.Bytes.{lows, patch, eights}
+use Rattle.low.proofs.Lows.{lows-long}
 use Rattle.sheet.specs.Tree.{Entry, setting, expression, entryStage}
-use Rattle.writer.specs.Write.{writeLiteral, writeBody, stageByte, writeRecord, writeSheet}
-use Rattle.writer.specs.Write.{WritableSetting, WritableEntry, WritableEntries, Writable}
+use Rattle.writer.specs.Write.{writeLiteral, writeBody, stageByte, writeRecord, writeSheet, WritableSetting, WritableEntry, WritableEntries, Writable}
 use Rattle.writer.specs.Write.{settledValue, settledEntry, settled, Written, contentPlace}
 use Rattle.writer.proofs.Settled.{sheet-long}
 

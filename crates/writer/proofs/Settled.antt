@@ -9,15 +9,14 @@ use Rattle.value.specs.Pattern.{properOf, keptOf}
 use Rattle.value.proofs.Sound.{kept-once, kept-proper}
 use Rattle.operand.specs.declared.Instance.{Instance}
 use Rattle.operand.specs.Operand.{shapeOf, inShape}
-use Rattle.slot.proofs.Slots.{eights-long}
-use Rattle.sheet.specs.Read.{found}
+use Rattle.low.proofs.Eights.{eights-long}
+use Rattle.low.specs.Read.{found}
 use Rattle.sheet.specs.Tree.{Expr, literal, reference, unary, binary, Entry, setting, expression, entryStage}
-use Rattle.sheet.specs.Sheet.{readSheet}
-use Rattle.writer.specs.Write.{writeLiteral, writeNode, writeBody, writeRecord, writeSheet}
-use Rattle.writer.specs.Write.{WritableValue, depth, WritableNode, WritableEntry, WritableEntries, Writable}
+use Rattle.sheet.specs.Sheet.{Sheet, readSheet}
+use Rattle.writer.specs.Write.{writeLiteral, writeNode, writeBody, writeRecord, writeSheet, WritableValue, depth, WritableNode, WritableEntry, WritableEntries, Writable}
 use Rattle.writer.specs.Write.{settledValue, settledNode, settledEntry, settled, Bytes}
 use Rattle.writer.proofs.ReadBack.{count-few, length-record, stage-kept, read-same}
-use Rattle.writer.proofs.Accepted.{accepted}
+use Rattle.writer.proofs.Accepted.{plain-sheet, accepted}
 
 -- ---- settled entries are written as long
 literal-long : (v : Instance) → length (writeLiteral (settledValue v)) ≡ length (writeLiteral v)
@@ -162,16 +161,16 @@ settled-writable es g =
     }
 
 -- ---- what was found is itself entries that can be written, settled
-pub found-writable : (s : List ℕ) (es : List Entry) (n : ℕ) → Bytes s → readSheet s ≡ found es n → Writable es × (settled es ≡ es)
-found-writable s es n bytes e =
-    let w = accepted s es n bytes e in
+pub found-writable : (s : List ℕ) (sh : Sheet) (n : ℕ) → Bytes s → readSheet s ≡ found sh n → Writable (sh .entries) × (settled (sh .entries) ≡ sh .entries)
+found-writable s sh n bytes e =
+    let w = accepted s sh n bytes e in
     (subst Writable (w .same) (settled-writable (w .raw) (w .writable)), ap settled (sym (w .same)) ∙ records-twice [] (w .raw) (w .writable .each) ∙ w .same)
 
 -- so it can be written again, and is read as it was
-pub found-again : (s : List ℕ) (es : List Entry) (n : ℕ) → Bytes s → readSheet s ≡ found es n → readSheet (writeSheet es) ≡ found es n
-found-again s es n bytes e =
-    let w = accepted s es n bytes e in
-    let g = found-writable s es n bytes e in
-    let l : length (writeSheet es) ≡ n =
+pub found-again : (s : List ℕ) (sh : Sheet) (n : ℕ) → Bytes s → readSheet s ≡ found sh n → readSheet (writeSheet (sh .entries)) ≡ found sh n
+found-again s sh n bytes e =
+    let w = accepted s sh n bytes e in
+    let g = found-writable s sh n bytes e in
+    let l : length (writeSheet (sh .entries)) ≡ n =
     ap (λ (k : List Entry). length (writeSheet k)) (sym (w .same)) ∙ sheet-long (w .raw) ∙ ap length (w .bytes) ∙ sym (w .ends) in
-    read-same es (g .0) (g .1) ∙ ap (found es) l
+    read-same (sh .entries) (g .0) (g .1) ∙ ap (λ (x : Sheet). found x (length (writeSheet (sh .entries)))) (plain-sheet s sh n e) ∙ ap (found sh) l

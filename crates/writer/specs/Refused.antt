@@ -5,7 +5,7 @@ use mathlib.Core.Path.{_≡_}
 use mathlib.Core.Logic.{_⊎_, _≢_}
 use mathlib.Core.List.{List, [], _∷_, _++_}
 use lib.ListN.{length, getD, take}
-use Rattle.sheet.specs.Read.{refused}
+use Rattle.low.specs.Read.{refused}
 use Rattle.sheet.specs.Tree.{Entry}
 use Rattle.sheet.specs.Record.{bodyLen}
 use Rattle.sheet.specs.Sheet.{readSheet}

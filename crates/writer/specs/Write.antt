@@ -8,8 +8,7 @@ use Rattle.types.specs.Types.{concreteOf}
 use Rattle.value.specs.Pattern.{properOf, keptOf}
 use Rattle.operand.specs.declared.Instance.{Instance}
 use Rattle.operand.specs.Operand.{shapeOk, shapeOf, inShape, componentCount, componentAt}
-use Rattle.slot.specs.Bytes.{lows}
-use Rattle.slot.specs.Slot.{eights}
+use Rattle.low.specs.Bytes.{lows, eights}
 use Rattle.sheet.specs.Tree.{Expr, literal, reference, unary, binary, Entry, setting, expression, entryStage}
 
 -- ---- entries as bytes

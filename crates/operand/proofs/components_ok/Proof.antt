@@ -6,7 +6,8 @@ use lib.ListN.{getD}
 use borrow.Author.Needs.{needs}
 use Rattle.value.specs.Pattern.{properOf}
 use Rattle.value.proofs.Widths.{up-to-most}
-use Rattle.operand.specs.Operand.{upTo, every, componentAt}
+use Rattle.operand.specs.Operand.{every, componentAt}
+use Rattle.low.specs.Bytes.{upTo}
 use Rattle.operand.proofs.Every.{every-more}
 use Rattle.operand.proofs.components_ok.Statement.{statement}
 use Rattle.operand.proofs.components_ok.Tie as tie

@@ -4,7 +4,7 @@ use Prim.Native.Nat.{_<_}
 use native.Mathlib.Omega.{arith}
 use borrow.Author.Tests.{leb-true}
 use borrow.Author.Needs.{needs}
-use Rattle.types.proofs.Choice.{both}
+use Rattle.low.proofs.Tests.{both}
 use Rattle.scalar.proofs.Codes.{no-arithmetic, arithmetic-code, comparison-code, bits-code, no-code}
 use Rattle.scalar.proofs.binary_op.Statement.{statement}
 use Rattle.scalar.proofs.binary_op.Tie as tie

@@ -45,7 +45,7 @@ add-n : tie.Need-add-n Inv-loop μ-loop
 add-n c = omega arith
 
 loop-less : tie.Need-loop-less Inv-loop μ-loop
-loop-less c = omega (arith, record-past _ _ _ _ _ _ (c .before .before .before .read-record .ensures) (c .before .stage .given .1))
+loop-less c = omega (arith, record-past _ _ _ _ _ _ _ (c .before .before .before .read-record .ensures) (c .before .stage .given .1))
 
 loop-again : tie.Need-loop-again Inv-loop μ-loop
 loop-again c =

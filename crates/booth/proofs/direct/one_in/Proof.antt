@@ -13,7 +13,7 @@ returns-2 c = let k = c .before .before .before in other-head _ (k .before .befo
 returns-3 : tie.Need-returns-3
 returns-3 c =
     let k = c .before .before .before .before .before .before in
-    the-scalar _ (k .before .before .if1 .left) _ (k .known .ensures) (c .before .before .before .if2 .left) _ _ (c .number .ensures) (c .before .part .ensures)
+    the-scalar _ (k .before .before .if1 .left) _ (k .known .ensures) (c .before .before .before .if2 .left) _ _ (c .number .ensures) (c .before .part .ensures .bytes)
 
 pub one-in-spec : {M : Type 1} → statement M
 one-in-spec =

@@ -21,7 +21,7 @@ returns-3 c =
     let h = c .before .before .before .before .before in
     operand-there _ _ _ _ (h .before .before .before .byte .ensures) (h .before .before .byte2 .ensures) (h .before .byte3 .ensures) _ (h .shape-ok .ensures)
     (c .before .before .before .before .if1 .left) _ (c .before .before .before .area .ensures .0) (c .before .before .if2 .left) _ _ (c .numbers .ensures)
-    (c .before .part .ensures)
+    (c .before .part .ensures .bytes)
 
 pub operand-spec : {M : Type 1} → statement M
 operand-spec =

@@ -22,7 +22,7 @@ returns c =
     let l = operandIn (take (u .used .result - 0) (u .before .laid-out .result)) in
     let e : unaryMeaning (s .before .byte .result) (s .byte2 .result) l ≡ askedBy operandOfC (a .case .now) =
     asked-of-one operandOfC (a .case .now) (k .byte3 .result) (s .before .byte .result) (s .byte2 .result) (k .byte3 .ensures) (s .before .byte .ensures) (s .byte2 .ensures)
-    _ (p .part .ensures) l (for-c _ _ _ (u .before .laid-out .ensures) (u .used .ensures .1)) _ (w .before .before .before .before .if1 .taken) refl in
+    _ (p .part .ensures .bytes) l (for-c _ _ _ (u .before .laid-out .ensures) (u .used .ensures .1)) _ (w .before .before .before .before .if1 .taken) refl in
     rw (← e) (w .wgsl-unary .ensures)
 
 returns-2 : tie.Need-returns-2
@@ -39,8 +39,8 @@ returns-2 c =
     let r = operandIn (take (v .used2 .result - 0) (v .before .laid-out2 .result)) in
     let e : binaryMeaning (s .before .byte .result) (s .byte2 .result) l r ≡ askedBy operandOfC (a .case .now) =
     asked-of-two operandOfC (a .case .now) (k .byte3 .result) (s .before .byte .result) (s .byte2 .result) (k .byte3 .ensures) (s .before .byte .ensures) (s .byte2 .ensures)
-    _ (p .part .ensures) l (for-c _ _ _ (u .before .laid-out .ensures) (u .used .ensures .1)) _ (n .before .if1 .left) (n .second .result) (n .second .ensures .0)
-    _ (v .before .before .part2 .ensures) r (for-c _ _ _ (v .before .laid-out2 .ensures) (v .used2 .ensures .1)) refl in
+    _ (p .part .ensures .bytes) l (for-c _ _ _ (u .before .laid-out .ensures) (u .used .ensures .1)) _ (n .before .if1 .left) (n .second .result) (n .second .ensures .0)
+    _ (v .before .before .part2 .ensures .bytes) r (for-c _ _ _ (v .before .laid-out2 .ensures) (v .used2 .ensures .1)) refl in
     rw (← e) (w .wgsl-binary .ensures)
 
 pub asked-spec : {M : Type 1} → statement M

@@ -8,13 +8,13 @@ returns : tie.Need-returns
 returns c =
     let k = c .before .before in
     answer-after-one (k .before .before .before .args .case .now) (k .byte .result) (k .before .second .result) (k .byte .ensures) (k .before .second .ensures .0) _
-    (c .before .if1 .taken) (c .part .ensures)
+    (c .before .if1 .taken) (c .part .ensures .bytes)
 
 returns-2 : tie.Need-returns-2
 returns-2 c =
     let k = c .before .before .before in
     answer-after-two (k .before .before .before .args .case .now) (k .byte .result) (k .before .second .result) (k .byte .ensures) (k .before .second .ensures .0) _
-    (c .before .before .if1 .left) _ (c .before .byte2 .ensures) (c .part2 .ensures)
+    (c .before .before .if1 .left) _ (c .before .byte2 .ensures) (c .part2 .ensures .bytes)
 
 pub answer-spec : {M : Type 1} → statement M
 answer-spec =

@@ -8,7 +8,7 @@ returns : tie.Need-returns
 unfolding outcomeIn
 returns c =
     let p = c .before .before in
-    rw (← p .part .ensures, ← c .before .instance .ensures, ← p .before .word .ensures, ← c .byte .ensures)
+    rw (← p .part .ensures .bytes, ← c .before .instance .ensures, ← p .before .word .ensures, ← c .byte .ensures)
 
 pub outcome-spec : {M : Type 1} → statement M
 outcome-spec = tie.close (tie.spec (λ c κs. search needs) (λ c κs. search needs) (λ c κs. search needs) (λ c κs. search needs) returns)

@@ -11,8 +11,8 @@ returns c =
     let p = k .before .before in
     let o = p .before in
     let a = o .before .before .args in
-    unary-right (a .case .now) (k .byte2 .result) (o .byte .result) (k .byte2 .ensures) (o .byte .ensures) _ (p .part .ensures) (k .before .scalar-in .result) (k .before .scalar-in .ensures)
-    (answerOf (c .before .before .unary .result)) _ _ (c .is-said .ensures) (c .before .before .before .if1 .taken) (c .before .before .unary .ensures) (c .before .part2 .ensures)
+    unary-right (a .case .now) (k .byte2 .result) (o .byte .result) (k .byte2 .ensures) (o .byte .ensures) _ (p .part .ensures .bytes) (k .before .scalar-in .result) (k .before .scalar-in .ensures)
+    (answerOf (c .before .before .unary .result)) _ _ (c .is-said .ensures) (c .before .before .before .if1 .taken) (c .before .before .unary .ensures) (c .before .part2 .ensures .bytes)
 
 returns-2 : tie.Need-returns-2
 returns-2 c =
@@ -22,9 +22,9 @@ returns-2 c =
     let p = k .before .before in
     let o = p .before in
     let a = o .before .before .args in
-    binary-right (a .case .now) (k .byte2 .result) (o .byte .result) (k .byte2 .ensures) (o .byte .ensures) _ (p .part .ensures) (k .before .scalar-in .result) (k .before .scalar-in .ensures)
-    (answerOf (b .binary .result)) _ _ (c .is-said2 .ensures) (r .before .before .if1 .left) _ (r .before .part3 .ensures) (r .scalar-in2 .result) (r .scalar-in2 .ensures)
-    (b .before .before .byte3 .result) (b .before .before .byte3 .ensures) (b .before .stage-of .result) (b .before .stage-of .ensures) (b .binary .ensures) (c .before .part4 .ensures)
+    binary-right (a .case .now) (k .byte2 .result) (o .byte .result) (k .byte2 .ensures) (o .byte .ensures) _ (p .part .ensures .bytes) (k .before .scalar-in .result) (k .before .scalar-in .ensures)
+    (answerOf (b .binary .result)) _ _ (c .is-said2 .ensures) (r .before .before .if1 .left) _ (r .before .part3 .ensures .bytes) (r .scalar-in2 .result) (r .scalar-in2 .ensures)
+    (b .before .before .byte3 .result) (b .before .before .byte3 .ensures) (b .before .stage-of .result) (b .before .stage-of .ensures) (b .binary .ensures) (c .before .part4 .ensures .bytes)
 
 pub is-right-spec : {M : Type 1} → statement M
 is-right-spec =

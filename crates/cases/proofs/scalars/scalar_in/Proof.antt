@@ -11,14 +11,16 @@ returns c =
     let f = c .before .before in
     let n = f .before .before in
     ap scalarFound (sym (c .enum-told .given .1))
-    ∙ scalar-found (n .before .before .before .args .operand .now) _ _ _ (f .scalar-of .result) (f .before .byte .ensures) (n .before .part .ensures) (n .number .ensures) (f .scalar-of .ensures)
+    ∙ scalar-found (n .before .before .before .args .operand .now) _ _ _ (f .scalar-of .result) (f .before .byte .ensures) (n .before .part .ensures .bytes)
+    (n .number .ensures) (f .scalar-of .ensures)
 
 returns-2 : tie.Need-returns-2
 returns-2 c =
     let f = c .before .before .before in
     let n = f .before .before in
     ap scalarFound (sym (c .before .s .given .1))
-    ∙ scalar-found (n .before .before .before .args .operand .now) _ _ _ (f .scalar-of .result) (f .before .byte .ensures) (n .before .part .ensures) (n .number .ensures) (f .scalar-of .ensures)
+    ∙ scalar-found (n .before .before .before .args .operand .now) _ _ _ (f .scalar-of .result) (f .before .byte .ensures) (n .before .part .ensures .bytes)
+    (n .number .ensures) (f .scalar-of .ensures)
 
 pub scalar-in-spec : {M : Type 1} → statement M
 scalar-in-spec =

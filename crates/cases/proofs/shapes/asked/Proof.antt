@@ -12,7 +12,7 @@ returns c =
     let s = l .before .before in
     let a = s .before .before .before .args in
     asked-of-one instanceIn (a .case .now) (k .byte3 .result) (s .before .byte .result) (s .byte2 .result) (k .byte3 .ensures) (s .before .byte .ensures) (s .byte2 .ensures)
-    _ (l .before .part .ensures) (l .instance .result) (l .instance .ensures) _ (c .before .if1 .taken) (c .unary .ensures)
+    _ (l .before .part .ensures .bytes) (l .instance .result) (l .instance .ensures) _ (c .before .if1 .taken) (c .unary .ensures)
 
 returns-2 : tie.Need-returns-2
 returns-2 c =
@@ -22,8 +22,8 @@ returns-2 c =
     let s = l .before .before in
     let a = s .before .before .before .args in
     asked-of-two instanceIn (a .case .now) (k .byte3 .result) (s .before .byte .result) (s .byte2 .result) (k .byte3 .ensures) (s .before .byte .ensures) (s .byte2 .ensures)
-    _ (l .before .part .ensures) (l .instance .result) (l .instance .ensures) _ (n .before .if1 .left) (n .second .result) (n .second .ensures .0)
-    _ (c .before .before .part2 .ensures) (c .before .instance2 .result) (c .before .instance2 .ensures) (c .binary .ensures)
+    _ (l .before .part .ensures .bytes) (l .instance .result) (l .instance .ensures) _ (n .before .if1 .left) (n .second .result) (n .second .ensures .0)
+    _ (c .before .before .part2 .ensures .bytes) (c .before .instance2 .result) (c .before .instance2 .ensures) (c .binary .ensures)
 
 pub asked-spec : {M : Type 1} → statement M
 asked-spec =

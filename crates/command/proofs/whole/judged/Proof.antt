@@ -13,7 +13,7 @@ returns c =
     let start = test .before .before .before .before in
     let s = start .args in
     shown-as (complain .complain .ensures)
-    (said-too-few (s .line .now) (s .readable) (s .bytes .now) _ _ (start .pre .0) (start .pre .2) (test .if1 .taken) _ (complain .before .word .ensures))
+    (said-too-few (s .line .now) (s .readable) (s .bytes .now) _ _ (start .pre .0) (start .pre .2) (test .if1 .taken) _ (complain .before .word .ensures .bytes))
 
 first-bad-requires : tie.Need-first-bad-requires
 first-bad-requires c κs =
@@ -29,7 +29,7 @@ returns-2 c =
     let s = start .args in
     shown-as (complain .complain2 .ensures)
     (said-bad (s .line .now) (s .readable) (s .bytes .now) _ _ (start .pre .0) (start .pre .2) (first .before .if1 .left) _ (first .first-bad .ensures)
-    (test .if2 .taken) _ (complain .before .word2 .ensures))
+    (test .if2 .taken) _ (complain .before .word2 .ensures .bytes))
 
 returns-3 : tie.Need-returns-3
 returns-3 c =
@@ -40,7 +40,7 @@ returns-3 c =
     let s = start .args in
     shown-as (complain .complain3 .ensures)
     (said-unread (s .line .now) (s .readable) (s .bytes .now) _ _ (start .pre .0) (start .pre .2) (first .before .if1 .left) _ (first .first-bad .ensures)
-    (test .before .if2 .left) (test .if3 .taken) _ (complain .before .word3 .ensures))
+    (test .before .if2 .left) (test .if3 .taken) _ (complain .before .word3 .ensures .bytes))
 
 pages-requires : tie.Need-pages-requires
 pages-requires c κs =

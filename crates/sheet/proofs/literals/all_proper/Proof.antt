@@ -16,13 +16,13 @@ Inv-loop b at n ty p₀ more₀ p more = (allProper ty n b at ≡ allProper ty m
 abbrev μ-loop : tie.MeasureT-loop
 μ-loop b at n ty p₀ more₀ p more = more
 
-word-at-requires : tie.Need-word-at-requires Inv-loop μ-loop
-word-at-requires c κs = omega arith
+get64-requires : tie.Need-get64-requires Inv-loop μ-loop
+get64-requires c κs = omega arith
 
 returns : tie.Need-returns Inv-loop μ-loop
 returns c =
     let l = c .before .before .before in
-    sym (l .before .loop .inv .0 ∙ first-bad _ _ _ _ _ _ (l .loop-test .taken) (c .before .before .word-at .ensures) (c .before .proper .ensures) (not-true _ (c .if1 .taken)))
+    sym (l .before .loop .inv .0 ∙ first-bad _ _ _ _ _ _ (l .loop-test .taken) (c .before .before .get64 .ensures) (c .before .proper .ensures) (not-true _ (c .if1 .taken)))
 
 add-p : tie.Need-add-p Inv-loop μ-loop
 add-p c = omega arith
@@ -36,7 +36,7 @@ loop-less c = omega arith
 loop-again : tie.Need-loop-again Inv-loop μ-loop
 loop-again c =
     let l = c .before .before .before in
-    let one = first-good _ _ _ _ _ _ (l .loop-test .taken) (c .before .before .word-at .ensures) (c .before .proper .ensures) (not-false _ (c .if1 .left)) in
+    let one = first-good _ _ _ _ _ _ (l .loop-test .taken) (c .before .before .get64 .ensures) (c .before .proper .ensures) (not-false _ (c .if1 .left)) in
     (l .before .loop .inv .0 ∙ one, omega arith)
 
 returns-2 : tie.Need-returns-2 Inv-loop μ-loop
@@ -45,4 +45,4 @@ returns-2 c = sym (c .before .loop .inv .0 ∙ none-proper _ _ _ _ (c .loop-test
 pub all-proper-spec : {M : Type 1} → statement M
 all-proper-spec =
     tie.close
-    (tie.spec Inv-loop μ-loop (λ c. search needs) word-at-requires (λ c κs. search needs) returns add-p sub-more loop-less loop-again returns-2)
+    (tie.spec Inv-loop μ-loop (λ c. search needs) get64-requires (λ c κs. search needs) returns add-p sub-more loop-less loop-again returns-2)

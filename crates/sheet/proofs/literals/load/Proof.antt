@@ -15,32 +15,8 @@ abbrev μ-loop : tie.MeasureT-loop
 loop-holds : tie.Need-loop-holds Inv-loop μ-loop
 loop-holds c = (none-loaded _ _ _, omega arith)
 
-mul-word-at : tie.Need-mul-word-at Inv-loop μ-loop
-mul-word-at c = omega arith
-
-add-word-at : tie.Need-add-word-at Inv-loop μ-loop
-add-word-at c = omega arith
-
-word-at-requires : tie.Need-word-at-requires Inv-loop μ-loop
-word-at-requires c κs = omega arith
-
-kept-requires : tie.Need-kept-requires Inv-loop μ-loop
-kept-requires c κs = tt
-
-mul-out : tie.Need-mul-out Inv-loop μ-loop
-mul-out c = omega arith
-
-array-write-out : tie.Need-array-write-out Inv-loop μ-loop
-array-write-out c = omega arith
-
-add-i : tie.Need-add-i Inv-loop μ-loop
-add-i c = omega arith
-
-loop-less : tie.Need-loop-less Inv-loop μ-loop
-loop-less c = omega arith
-
 loop-again : tie.Need-loop-again Inv-loop μ-loop
-loop-again c = (one-loaded _ _ _ _ _ _ _ (omega arith) (c .before .before .before .loop .inv .0) (c .before .word-at .ensures) (c .kept .ensures), omega arith)
+loop-again c = (one-loaded _ _ _ _ _ _ _ (omega arith) (c .before .before .before .loop .inv .0) (c .before .get64 .ensures) (c .kept .ensures), omega arith)
 
 returns : tie.Need-returns Inv-loop μ-loop
 returns c = all-loaded _ _ _ _ _ _ (c .before .loop .inv .1) (c .loop-test .left) (c .before .loop .inv .0)
@@ -48,5 +24,5 @@ returns c = all-loaded _ _ _ _ _ _ (c .before .loop .inv .1) (c .loop-test .left
 pub load-spec : {M : Type 1} → statement M
 load-spec =
     tie.close
-    (tie.spec Inv-loop μ-loop loop-holds mul-word-at add-word-at word-at-requires kept-requires mul-out array-write-out add-i loop-less loop-again
-    returns)
+    (tie.spec Inv-loop μ-loop loop-holds (λ c. omega arith) (λ c. omega arith) (λ c κs. omega arith) (λ c κs. tt) (λ c. omega arith)
+    (λ c. omega arith) (λ c. omega arith) (λ c. omega arith) loop-again returns)

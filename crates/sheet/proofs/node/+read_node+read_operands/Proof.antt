@@ -5,7 +5,7 @@ use mathlib.Core.Path.{sym, ap, _∙_}
 use lib.ListN.{length}
 use borrow.Author.Needs.{needs}
 use borrow.Author.Tests.{not-true, not-false}
-use Rattle.sheet.specs.Read.{seenOf}
+use Rattle.low.specs.Read.{seenOf}
 use Rattle.sheet.specs.Node.{readNode}
 use Rattle.sheet.proofs.Nodes.{node-cut, seen-literal, seen-reference, seen-unary, seen-binary, seen-unknown, read-past}
 use Rattle.sheet.proofs.Nodes.{operator-cut, operator-bad, operator-one, operator-two, operator-two-not}
@@ -17,7 +17,7 @@ use Rattle.sheet.proofs.node.+read_node+read_operands.Lts-read_node as 
 use Rattle.sheet.proofs.node.read_operands.Reads as read-operands
 use Rattle.sheet.proofs.node.read_operands.Kinds as read-operands-kinds
 use Rattle.sheet.proofs.node.+read_node+read_operands.Lts-read_operands as read-operands-lts
-use Rattle.sheet.proofs.bytes.remaining.Reads as remaining-reads
+use Rattle.low.proofs.remaining.Reads as remaining-reads
 use Rattle.sheet.proofs.literals.read_literal.Reads as read-literal-reads
 use Rattle.sheet.proofs.node.known_operator.Reads as known-operator-reads
 use Rattle.sheet.proofs.node.read_reference.Reads as read-reference-reads
@@ -69,7 +69,7 @@ read-node-remaining-requires : (t : ℕ) → read-node-lts.Need-remaining-requir
 read-node-remaining-requires t c κs = tt
 
 read-node-returns-2 : (t : ℕ) → read-node-lts.Need-returns-2 (read-node-claims t) (read-node-at t) read-node.Post
-read-node-returns-2 t c = ap seenOf (sym (node-cut _ _ _ _ _ (c .before .before .if1 .left) (omega arith)))
+read-node-returns-2 t c = ap seenOf (sym (node-cut _ _ _ _ _ _ (c .before .before .if1 .left) (omega arith)))
 
 read-node-shared-slice-read-tag : (t : ℕ) → read-node-lts.Need-shared-slice-read-tag (read-node-claims t) (read-node-at t) read-node.Post
 read-node-shared-slice-read-tag t c = omega arith
@@ -93,21 +93,21 @@ read-node-read-operands-requires-2 : (t : ℕ) → read-node-lts.Need-read-opera
 read-node-read-operands-requires-2 t c κs = (omega arith, tt)
 
 read-node-returns-3 : (t : ℕ) → read-node-lts.Need-returns-3 (read-node-claims t) (read-node-at t) read-node.Post
-read-node-returns-3 t c = c .read-literal .ensures ∙ sym (seen-literal _ _ _ _ _ (c .before .before .before .before .before .if1 .left) (omega arith) (c .before .match .keys1))
+read-node-returns-3 t c = c .read-literal .ensures ∙ sym (seen-literal _ _ _ _ _ _ (c .before .before .before .before .before .if1 .left) (omega arith) (c .before .match .keys1))
 
 read-node-returns-4 : (t : ℕ) → read-node-lts.Need-returns-4 (read-node-claims t) (read-node-at t) read-node.Post
-read-node-returns-4 t c = c .read-reference .ensures ∙ sym (seen-reference _ _ _ _ _ (c .before .before .before .before .before .if1 .left) (omega arith) (c .before .match .keys2))
+read-node-returns-4 t c = c .read-reference .ensures ∙ sym (seen-reference _ _ _ _ _ _ (c .before .before .before .before .before .if1 .left) (omega arith) (c .before .match .keys2))
 
 read-node-returns-5 : (t : ℕ) → read-node-lts.Need-returns-5 (read-node-claims t) (read-node-at t) read-node.Post
-read-node-returns-5 t c = c .read-operands .ensures ∙ sym (seen-unary _ _ _ _ _ (c .before .before .before .before .before .if1 .left) (omega arith) (c .before .match .keys3))
+read-node-returns-5 t c = c .read-operands .ensures ∙ sym (seen-unary _ _ _ _ _ _ (c .before .before .before .before .before .if1 .left) (omega arith) (c .before .match .keys3))
 
 read-node-returns-6 : (t : ℕ) → read-node-lts.Need-returns-6 (read-node-claims t) (read-node-at t) read-node.Post
-read-node-returns-6 t c = c .read-operands2 .ensures ∙ sym (seen-binary _ _ _ _ _ (c .before .before .before .before .before .if1 .left) (omega arith) (c .before .match .keys4))
+read-node-returns-6 t c = c .read-operands2 .ensures ∙ sym (seen-binary _ _ _ _ _ _ (c .before .before .before .before .before .if1 .left) (omega arith) (c .before .match .keys4))
 
 read-node-returns-7 : (t : ℕ) → read-node-lts.Need-returns-7 (read-node-claims t) (read-node-at t) read-node.Post
 read-node-returns-7 t c =
     let others = c .match .rest in
-    sym (seen-unknown _ _ _ _ _ (c .before .before .before .before .if1 .left) (omega arith) (others .0 .0 .0 .1) (others .0 .0 .1) (others .0 .1) (others .1))
+    sym (seen-unknown _ _ _ _ _ _ (c .before .before .before .before .if1 .left) (omega arith) (others .0 .0 .0 .1) (others .0 .0 .1) (others .0 .1) (others .1))
 
 abbrev read-operands-claims : ℕ → read-operands-lts.Claims
 read-operands-claims t = (remaining-reads.Asked, remaining-reads.Learnt, known-operator-reads.Asked, known-operator-reads.Learnt, read-node-below t, read-node.Post)
@@ -152,7 +152,7 @@ read-operands-returns-3 t c =
 read-operands-read-node-requires-2 : (t : ℕ) → read-operands-lts.Need-read-node-requires-2 (read-operands-claims t) (read-operands-at t) read-operands.Post
 read-operands-read-node-requires-2 t c κs =
     let first = c .before .before .before .before in
-    (omega (arith, read-past _ _ _ _ _ _ (omega arith) (sym (c .before .first .given .1) ∙ first .read-node .ensures)), tt)
+    (omega (arith, read-past _ _ _ _ _ _ _ (omega arith) (sym (c .before .first .given .1) ∙ first .read-node .ensures)), tt)
 
 read-operands-returns-4 : (t : ℕ) → read-operands-lts.Need-returns-4 (read-operands-claims t) (read-operands-at t) read-operands.Post
 read-operands-returns-4 t c =

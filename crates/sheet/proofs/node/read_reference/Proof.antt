@@ -2,7 +2,7 @@
 use native.Mathlib.Omega.{arith}
 use mathlib.Core.Path.{sym, ap}
 use Prim.Native.Nat.{_+_}
-use Rattle.sheet.specs.Read.{seenOf}
+use Rattle.low.specs.Read.{seenOf}
 use Rattle.sheet.proofs.Nodes.{reference-cut, reference-late, reference-above, reference-good}
 use borrow.Author.Needs.{needs}
 use Rattle.sheet.proofs.node.read_reference.Statement.{statement}

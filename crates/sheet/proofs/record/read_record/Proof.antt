@@ -10,7 +10,7 @@ add-t17 c =
     let h = c .before .before .before .before .before .before in
     omega (
       arith,
-      bad-place _ _ _ _ _ _ _ (h .before .before .read-head .ensures) (h .stage .given .1) _ (c .before .before .before .before .body .ensures) _
+      bad-place _ _ _ _ _ _ _ _ (h .before .before .read-head .ensures) (h .stage .given .1) _ (c .before .before .before .before .body .ensures .bytes) _
           (c .before .before .before .read-body .ensures) _ _ (c .before .k2 .given .1),
     )
 
@@ -19,24 +19,24 @@ add-t19 c =
     let h = c .before .before .before .before .before .before .before in
     omega (
       arith,
-      good-place _ _ _ _ _ _ _ (h .before .before .read-head .ensures) (h .stage .given .1) _ (c .before .before .before .before .before .body .ensures) _
+      good-place _ _ _ _ _ _ _ _ (h .before .before .read-head .ensures) (h .stage .given .1) _ (c .before .before .before .before .before .body .ensures .bytes) _
           (c .before .before .before .before .read-body .ensures) _ (c .before .before .n .given .1),
     )
 
 returns : tie.Need-returns
-returns c = record-head _ _ _ _ _ _ (c .before .before .before .read-head .ensures) (c .before .k .given .1)
+returns c = record-head _ _ _ _ _ _ _ (c .before .before .before .read-head .ensures) (c .before .k .given .1)
 
 returns-2 : tie.Need-returns-2
 returns-2 c =
     let h = c .before .before .before .before .before .before in
-    record-bad _ _ _ _ _ _ _ (h .before .before .read-head .ensures) (h .stage .given .1) _ (c .before .before .before .before .body .ensures) _
+    record-bad _ _ _ _ _ _ _ _ (h .before .before .read-head .ensures) (h .stage .given .1) _ (c .before .before .before .before .body .ensures .bytes) _
     (c .before .before .before .read-body .ensures) _ _ (c .before .k2 .given .1)
 
 returns-3 : tie.Need-returns-3
 returns-3 c =
     let h = c .before .before .before .before .before .before .before in
-    record-good _ _ _ _ _ _ _ (h .before .before .read-head .ensures) (h .stage .given .1) _ (c .before .before .before .before .before .body .ensures) _
-    (c .before .before .before .before .read-body .ensures) _ (c .before .before .n .given .1) _ (c .stage-of .ensures)
+    record-good _ _ _ _ _ _ _ _ (h .before .before .read-head .ensures) (h .stage .given .1) _ (c .before .before .before .before .before .body .ensures .bytes) _
+    (c .before .before .before .before .read-body .ensures) _ (c .before .before .n .given .1) _ (c .counts-as .ensures)
 
 pub read-record-spec : {M : Type 1} → statement M
 read-record-spec =

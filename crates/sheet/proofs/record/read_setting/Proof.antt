@@ -7,13 +7,13 @@ use Rattle.sheet.proofs.record.read_setting.Statement.{statement}
 use Rattle.sheet.proofs.record.read_setting.Tie as tie
 
 returns : tie.Need-returns
-returns c = sym (setting-cut _ (c .if1 .taken))
+returns c = sym (setting-cut _ _ (c .if1 .taken))
 
 returns-2 : tie.Need-returns-2
-returns-2 c = sym (setting-tag _ (omega arith) (c .if2 .taken))
+returns-2 c = sym (setting-tag _ _ (omega arith) (c .if2 .taken))
 
 returns-3 : tie.Need-returns-3
-returns-3 c = c .read-literal .ensures ∙ sym (setting-literal _ (omega arith) (c .before .if2 .left))
+returns-3 c = c .read-literal .ensures ∙ sym (setting-literal _ _ (omega arith) (c .before .if2 .left))
 
 pub read-setting-spec : {M : Type 1} → statement M
 read-setting-spec = tie.close (tie.spec returns (λ c. search needs) returns-2 (λ c κs. search needs) returns-3)

@@ -1,5 +1,0 @@
-pub mod Ends
-pub mod Places
-pub mod Sixteen
-pub mod Single
-pub mod Impostors

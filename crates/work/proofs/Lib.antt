@@ -1,0 +1,5 @@
+pub mod Trees
+pub mod Bodies
+pub mod Formed
+pub mod Single
+pub mod Impostors
