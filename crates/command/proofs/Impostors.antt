@@ -52,3 +52,8 @@ long-listed s h = ap (λ (r : Read Sheet). pages true r (askedFrom 1 (changing (
 pub no-room : printed 8 (ascii "sheet 3\n1") ≡ ascii "listing:"
 unfolding printed must complaint
 no-room = refl
+
+-- and one that just fits is printed
+pub just-fits : printed 8 (ascii "sheet 3\n") ≡ ascii "sheet 3\n"
+unfolding printed must complaint
+just-fits = refl

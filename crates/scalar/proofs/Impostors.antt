@@ -29,6 +29,11 @@ pub infinity-witnesses : (stepOf 5 2 5 0x7F000000 0x7F000000 ≡ S.Bits 5 0x7F80
 unfolding stepOf mul roundTo unitsIn ofBits toBits
 infinity-witnesses = (refl, refl)
 
+-- in a sum of products the product is judged before the sum
+pub product-judged : productAdded 0 5 0 0x7F000000 0x7F000000 ≡ S.Refused (refusal 6 0)
+unfolding stepOf productAdded mul roundTo unitsIn ofBits toBits
+product-judged = refl
+
 -- the product without the sum, the sum without the product
 pub product-witness : productAdded 0 3 1 2 3 ≡ S.Bits 3 7
 unfolding wrapU wrapS stepOf productAdded
