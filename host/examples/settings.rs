@@ -1,20 +1,27 @@
-//! Folds a sheet of three entries, changes its setting, and prints the listing each time.
-use host::{Refusal, Sheet, Value};
+//! Puts a sheet of two settings and three constants together, works it out, changes a setting, and says what moved and why.
+use booth::{Expr, Refusal, Results, Sheet, Slot, Stage};
 
-const SHEET: [u8; 59] = [
-    // 0: a setting, U32 5
-    0xd5, 0x17, 3, 12, 0, 1, 4, 1, 1, 5, 0, 0, 0, 0, 0, 0, 0, //
-    // 1: U32 1 << entry 0
-    0xd5, 0x17, 1, 16, 0, 4, 17, 1, 4, 1, 1, 1, 0, 0, 0, 0, 0, 0, 0, 2, 0, //
-    // 2: entry 1 - U32 1
-    0xd5, 0x17, 1, 16, 0, 4, 4, 2, 1, 1, 4, 1, 1, 1, 0, 0, 0, 0, 0, 0, 0,
-];
+fn print(results: &Results) {
+    for (number, entry) in (0..).zip(results.sheet().entries()) {
+        match results.slot(number) {
+            Some(Slot::Value(value)) => println!("#{number} {}: {} = {value}", entry.kind, entry.expr),
+            Some(Slot::Refused(refusal)) => println!("#{number} {}: {}: {refusal}", entry.kind, entry.expr),
+            _ => println!("#{number} {}: {}: no slot", entry.kind, entry.expr),
+        }
+    }
+}
 
 fn main() -> Result<(), Refusal> {
-    let mut results = Sheet::new(SHEET.to_vec())?.fold()?;
-    print!("{results}");
-    let dependents = results.set(0, Value::from(32u32))?;
-    println!("setting entry 0 to 32: {dependents} dependents");
-    print!("{results}");
+    let mut builder = Sheet::builder();
+    let cell = builder.setting(5u32);
+    let scale = builder.setting(0.25f32);
+    let mask = builder.entry(Stage::Override, Expr::from(1u32) << cell);
+    builder.entry(Stage::Override, mask - 1u32.into());
+    builder.entry(Stage::Exec, scale * Expr::from([1.0f32, 2.0, 4.0]));
+    let mut results = builder.build()?.fold()?;
+    print(&results);
+    let moved = results.set(0, 32u32)?;
+    println!("entry 0 set to 32u: {moved:?} had to move");
+    print(&results);
     Ok(())
 }

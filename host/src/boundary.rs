@@ -1,4 +1,4 @@
-//! The five exported functions, each with its slices. Nothing checks these declarations against the library but the tests.
+//! The six exported functions, each with its slices. Nothing checks these declarations against the library but the tests.
 //! An answer has the number in bits 32 to 39 and the detail in bits 0 to 31.
 
 mod c {
@@ -31,6 +31,17 @@ mod c {
             entry: u64,
             ty: u8,
             bits: u64,
+        ) -> u64;
+        pub fn sheet_change_marks(
+            sheet: *const u8,
+            sheet_len: usize,
+            results: *mut u8,
+            results_len: usize,
+            entry: u64,
+            ty: u8,
+            bits: u64,
+            marks: *mut u8,
+            marks_len: usize,
         ) -> u64;
     }
 }
@@ -65,4 +76,14 @@ pub fn raw_fresh(sheet: &[u8], results: &mut [u8]) -> u64 {
 pub fn raw_change(sheet: &[u8], results: &mut [u8], entry: u64, ty: u8, bits: u64) -> u64 {
     // SAFETY: as in `raw_unary`.
     unsafe { c::sheet_change(sheet.as_ptr(), sheet.len(), results.as_mut_ptr(), results.len(), entry, ty, bits) }
+}
+
+/// `sheet_change_marks` as it is: marks of any length.
+pub fn raw_change_marks(sheet: &[u8], results: &mut [u8], entry: u64, ty: u8, bits: u64, marks: &mut [u8]) -> u64 {
+    let (results_len, marks_len) = (results.len(), marks.len());
+    let (results, marks) = (results.as_mut_ptr(), marks.as_mut_ptr());
+    // SAFETY: as in `raw_unary`; the two that are written to overlap neither each other nor the sheet.
+    unsafe {
+        c::sheet_change_marks(sheet.as_ptr(), sheet.len(), results, results_len, entry, ty, bits, marks, marks_len)
+    }
 }

@@ -1,7 +1,7 @@
 //! A safe Rust interface to `libbooth.a`: WGSL's operators on single values, and sheets of constants with settings.
 //!
 //! ```
-//! use host::{Binary, Refusal, Stage, Value, binary};
+//! use booth::{binary, Binary, Refusal, Stage, Value};
 //!
 //! let five = binary(Binary::Add, Stage::Const, &Value::from(2u32), &Value::from(3u32));
 //! assert_eq!(five, Ok(Value::from(5u32)));
@@ -9,95 +9,31 @@
 //! assert_eq!(lost, Err(Refusal::ShlOverflow { count: 32 }));
 //! ```
 //!
+//! Every answer of the library is proved: which sheets are accepted, what an entry comes to, which entries a change works and that no other
+//! byte moves. This crate is not: it carries numbers and bytes to the library and back, and prints them.
+//!
 //! No function panics, whatever it is given. A refusal leaves every lent byte as it was.
 mod boundary;
+mod calls;
+mod codes;
+mod decimal;
+mod expr;
+mod literal;
+mod read;
 mod refusal;
+mod results;
 mod sheet;
 mod value;
 
-pub use boundary::{raw_binary, raw_change, raw_check, raw_fresh, raw_unary};
+pub use boundary::{raw_binary, raw_change, raw_change_marks, raw_check, raw_fresh, raw_unary};
+pub use calls::{binary, change, check, fresh, unary};
+pub use codes::{Binary, Stage, Type, Unary};
+pub use expr::{Bond, Expr, Written};
+pub use read::BadLiteral;
 pub use refusal::Refusal;
-pub use sheet::{change, check, fresh, Results, Sheet, Slot};
-pub use value::{Type, Value};
+pub use results::{Results, Slot, Step};
+pub use sheet::{Builder, Entry, Kind, Sheet};
+pub use value::{Value, WrongType};
 
 /// Bytes of a slot.
 pub const SLOT: usize = 136;
-
-/// When an expression is worked out.
-#[derive(Clone, Copy, Debug, PartialEq, Eq, Hash)]
-#[repr(u8)]
-pub enum Stage {
-    Const = 0,
-    Override = 1,
-    Exec = 2,
-}
-
-/// The operators on one value.
-#[derive(Clone, Copy, Debug, PartialEq, Eq, Hash)]
-#[repr(u8)]
-pub enum Unary {
-    /// `!`
-    Not = 1,
-    /// `-`
-    Neg = 2,
-    /// `~`
-    BitNot = 3,
-}
-
-/// The operators on two values.
-#[derive(Clone, Copy, Debug, PartialEq, Eq, Hash)]
-#[repr(u8)]
-pub enum Binary {
-    /// `||`
-    Or = 1,
-    /// `&&`
-    And = 2,
-    /// `+`
-    Add = 3,
-    /// `-`
-    Sub = 4,
-    /// `*`
-    Mul = 5,
-    /// `/`
-    Div = 6,
-    /// `%`
-    Rem = 7,
-    /// `==`
-    Eq = 8,
-    /// `!=`
-    Ne = 9,
-    /// `<`
-    Lt = 10,
-    /// `<=`
-    Le = 11,
-    /// `>`
-    Gt = 12,
-    /// `>=`
-    Ge = 13,
-    /// `|`
-    BitOr = 14,
-    /// `&`
-    BitAnd = 15,
-    /// `^`
-    BitXor = 16,
-    /// `<<`
-    Shl = 17,
-    /// `>>`
-    Shr = 18,
-}
-
-/// An operator on one value.
-pub fn unary(op: Unary, stage: Stage, operand: &Value) -> Result<Value, Refusal> {
-    let mut slot = [0; SLOT];
-    let bytes = operand.bytes();
-    Refusal::of(raw_unary(op as u8, stage as u8, bytes.as_slice(), &mut slot))?;
-    Value::of_slot(&slot)
-}
-
-/// An operator on two values.
-pub fn binary(op: Binary, stage: Stage, left: &Value, right: &Value) -> Result<Value, Refusal> {
-    let mut slot = [0; SLOT];
-    let (l, r) = (left.bytes(), right.bytes());
-    Refusal::of(raw_binary(op as u8, stage as u8, l.as_slice(), r.as_slice(), &mut slot))?;
-    Value::of_slot(&slot)
-}

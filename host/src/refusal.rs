@@ -120,6 +120,55 @@ impl Refusal {
         self.parts().2
     }
 
+    /// What it means, in a sentence for people.
+    pub fn sentence(self) -> String {
+        let fixed = match self {
+            Refusal::Unary => "the operator does not take a value of this type or shape",
+            Refusal::Binary => {
+                "the operator does not take two such values, or one does not convert to the other's type"
+            }
+            Refusal::CompwiseBinary => "the shapes of the two values are not equal",
+            Refusal::AddOverflow => "the sum is beyond what its type holds",
+            Refusal::SubOverflow => "the difference is beyond what its type holds",
+            Refusal::MulOverflow => "the product is beyond what its type holds",
+            Refusal::DivByZero => "the divisor is zero, or the quotient is beyond what its type holds",
+            Refusal::RemZeroDiv => "there is no remainder by this divisor that its type holds",
+            Refusal::SheetTooLong => "the sheet has more than 16,384 bytes",
+            Refusal::ResultsSize => "the results have not 136 bytes for each entry",
+            Refusal::NotASetting => "there is no such entry, or it is no setting",
+            Refusal::SettingType => "the new content is not of the setting's type",
+            _ => return self.sentence_with_detail(),
+        };
+        fixed.to_owned()
+    }
+
+    fn sentence_with_detail(self) -> String {
+        let place = self.detail();
+        match self {
+            Refusal::ShlOverflow { count } => format!("the left shift leaves no room for the count {count}"),
+            Refusal::ShrOverflow { count } => format!("32 bits cannot be shifted right by the count {count}"),
+            Refusal::FromEntry { entry } => format!("no value: #{entry} has none"),
+            Refusal::BadMark { .. } => format!("no record begins at byte {place}: its mark is not D5 17"),
+            Refusal::CutShort { .. } => format!("byte {place} is missing"),
+            Refusal::BadStage { .. } => {
+                format!(
+                    "the stage at byte {place} is unknown, or the entry named there has a later stage than this one"
+                )
+            }
+            Refusal::TooManyEntries { .. } => format!("the record at byte {place} is one more than 128"),
+            Refusal::BadNode { .. } => {
+                format!("the node at byte {place} has a tag or an operator that does not stand there")
+            }
+            Refusal::BadValue { .. } => {
+                format!("the value at byte {place} has a type, a shape or bits that do not stand there")
+            }
+            Refusal::BadRef { .. } => format!("the node at byte {place} names an entry that is not an earlier one"),
+            Refusal::TooDeep { .. } => format!("the node at byte {place} is more than 32 deep"),
+            Refusal::Leftover { .. } => format!("the expression has ended before byte {place}, and its record goes on"),
+            _ => format!("refusal {} with detail {place}", self.number()),
+        }
+    }
+
     fn parts(self) -> (u8, &'static str, u32) {
         match self {
             Refusal::Unary => (1, "Unary", 0),
@@ -151,11 +200,10 @@ impl Refusal {
     }
 }
 
-/// As `ShlOverflow (9), 32`.
+/// The name and a sentence: `ShlOverflow: the left shift leaves no room for the count 32`.
 impl fmt::Display for Refusal {
     fn fmt(&self, f: &mut fmt::Formatter) -> fmt::Result {
-        let (number, name, detail) = self.parts();
-        write!(f, "{name} ({number}), {detail}")
+        write!(f, "{}: {}", self.name(), self.sentence())
     }
 }
 

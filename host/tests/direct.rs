@@ -1,5 +1,5 @@
 //! Single operators: the table cases, the refusals of the boundary itself, and that a refusal writes nothing.
-use host::{binary, raw_binary, raw_unary, unary, Binary, Refusal, Stage, Type, Unary, Value, SLOT};
+use booth::{binary, raw_binary, raw_unary, unary, Binary, Refusal, Stage, Type, Unary, Value, SLOT};
 
 use Stage::{Const, Exec, Override};
 

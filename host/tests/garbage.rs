@@ -1,35 +1,23 @@
 //! Random bytes: no call ends in a panic, and a refused call has written nothing.
-use host::{raw_binary, raw_change, raw_check, raw_fresh, raw_unary, SLOT};
+#[path = "common/dice.rs"]
+mod dice;
 
-struct Dice(u64);
+use booth::{raw_binary, raw_change, raw_check, raw_fresh, raw_unary, SLOT};
+use dice::Dice;
 
-impl Dice {
-    fn roll(&mut self) -> u64 {
-        self.0 ^= self.0 << 13;
-        self.0 ^= self.0 >> 7;
-        self.0 ^= self.0 << 17;
-        self.0
+/// Often a well-formed operand.
+fn operand(dice: &mut Dice) -> Vec<u8> {
+    if dice.below(8) == 0 {
+        let length = dice.below(140);
+        return dice.bytes(length);
     }
-    fn below(&mut self, n: u64) -> usize {
-        (self.roll() >> 20) as usize % n as usize
+    let (columns, rows) = (1 + dice.below(5) as u8, 1 + dice.below(5) as u8);
+    let mut bytes = vec![dice.below(8) as u8, columns, rows];
+    let high = dice.below(9);
+    for _ in 0..columns * rows {
+        bytes.extend((dice.roll() >> (8 * high.min(7))).to_le_bytes());
     }
-    fn bytes(&mut self, most: u64) -> Vec<u8> {
-        (0..self.below(most)).map(|_| self.roll() as u8).collect()
-    }
-    /// Often a well-formed operand.
-    fn operand(&mut self) -> Vec<u8> {
-        let (columns, rows) = (1 + self.below(5) as u8, 1 + self.below(5) as u8);
-        let mut bytes = vec![self.below(8) as u8, columns, rows];
-        let high = self.below(9);
-        for _ in 0..columns * rows {
-            bytes.extend((self.roll() >> (8 * high.min(7))).to_le_bytes());
-        }
-        if self.below(8) == 0 {
-            self.bytes(140)
-        } else {
-            bytes
-        }
-    }
+    bytes
 }
 
 fn refused(answer: u64) -> bool {
@@ -42,7 +30,7 @@ fn operands() {
     let mut dice = Dice(0x1234_5678_9abc_def1);
     for _ in 0..200_000 {
         let (op, stage) = (dice.below(21) as u8, dice.below(4) as u8);
-        let (left, right) = (dice.operand(), dice.operand());
+        let (left, right) = (operand(&mut dice), operand(&mut dice));
         let mut slot = [0x5a; SLOT];
         if refused(raw_binary(op, stage, &left, &right, &mut slot)) {
             assert_eq!(slot, [0x5a; SLOT]);
@@ -64,9 +52,10 @@ const SHEET: [u8; 59] = [
 fn sheets() {
     let mut dice = Dice(0xfeed_beef_1234_5671);
     for _ in 0..50_000 {
-        let mut sheet = if dice.below(4) == 0 { dice.bytes(200) } else { SHEET.to_vec() };
+        let length = dice.below(200);
+        let mut sheet = if dice.below(4) == 0 { dice.bytes(length) } else { SHEET.to_vec() };
         for _ in 0..dice.below(3).min(sheet.len()) {
-            let place = dice.below(sheet.len() as u64);
+            let place = dice.below(sheet.len());
             sheet[place] = dice.roll() as u8;
         }
         let answer = raw_check(&sheet);

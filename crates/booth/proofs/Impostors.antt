@@ -3,16 +3,21 @@ use mathlib.Core.Path.{_≡_, refl}
 use mathlib.Core.List.{List, [], _∷_, map}
 use Prim.Native.Nat.{ℕ}
 use lib.ListN.{replicate}
+use Rattle.low.specs.Bytes.{upTo}
 use Rattle.low.specs.Read.{must, thenRead, readAs}
 use Rattle.operand.specs.declared.Instance.{Instance}
 use Rattle.operand.specs.Outcome.{refusedWith, valueOf}
 use Rattle.dispatch.specs.Meaning.{unaryMeaning, binaryMeaning}
+use Rattle.sheet.specs.Tree.{names, namesOf}
 use Rattle.sheet.specs.Record.{readHead, readRecord}
 use Rattle.sheet.specs.Sheet.{readRecords, readFrom, readSheet, countedOf}
-use Rattle.entries.specs.Entries.{entryAt, isSetting}
+use Rattle.sheet.proofs.Example.{bytes, example}
+use Rattle.entries.specs.Entries.{entryAt, refsOf, isSetting, settingType}
+use Rattle.entries.specs.Depend.{any, chain}
 use Rattle.fold.specs.Fresh.{freshAnswer}
 use Rattle.fold.specs.Change.{faultOf, changeAnswer}
 use Rattle.booth.specs.Answer.{packedAnswer, packedFold}
+use Rattle.booth.specs.Marks.{otherSize, marksAnswer, marksBytes}
 use Rattle.booth.specs.Operand.{operandIn, intoSlot, directAnswer, directBytes}
 
 -- not every sheet is refused, and the place of a sheet that is cut short is not lost
@@ -29,6 +34,27 @@ fresh-answers = refl
 pub change-answer : packedFold (changeAnswer (readSheet []) [] 0 4 5) ≡ packedAnswer 31 0
 unfolding must readAs readRecords readFrom readSheet entryAt isSetting faultOf changeAnswer
 change-answer = refl
+
+-- marks of 127 or 129 bytes are not taken, and with 128 bytes the change is judged
+pub marks-sizes : map (λ (n : ℕ). packedFold (marksAnswer (readSheet []) [] 0 4 5 (replicate n 7))) (127 ∷ 128 ∷ 129 ∷ [])
+    ≡ packedAnswer 30 0 ∷ packedAnswer 31 0 ∷ packedAnswer 30 0 ∷ []
+unfolding must readAs readRecords readFrom readSheet entryAt isSetting faultOf changeAnswer otherSize marksAnswer
+marks-sizes = refl
+
+-- nor is their size judged before the sheet
+pub sheet-before-marks : packedFold (marksAnswer (readSheet (213 ∷ [])) [] 0 4 5 []) ≡ packedAnswer 22 1
+unfolding must thenRead readAs readHead readRecord readRecords readFrom readSheet otherSize marksAnswer
+sheet-before-marks = refl
+
+-- of the example the setting and both dependents are marked, and no other entry
+pub marks-written : marksBytes (readSheet bytes) (replicate 408 0) 0 4 32 (replicate 128 7) ≡ 1 ∷ 1 ∷ 1 ∷ replicate 125 0
+unfolding marksBytes faultOf isSetting settingType entryAt must refsOf names namesOf any chain upTo
+marks-written = rw example
+
+-- a refused change marks nothing
+pub marks-kept : marksBytes (readSheet []) [] 0 4 5 (replicate 128 7) ≡ replicate 128 7
+unfolding must readAs readRecords readFrom readSheet entryAt isSetting faultOf marksBytes
+marks-kept = refl
 
 -- a slot of 135 or 137 bytes is not taken, whatever the operator answers: a value, or a refusal of its own
 pub slot-sizes : (v : Instance) → map (λ (n : ℕ). map (directAnswer (replicate n 7)) (valueOf v ∷ refusedWith 9 32 ∷ [])) (135 ∷ 137 ∷ [])

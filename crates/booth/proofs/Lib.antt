@@ -1,5 +1,6 @@
 pub mod Operands
 pub mod Settled
+pub mod Marked
 pub mod Bounds
 pub mod Packed
 pub mod Single

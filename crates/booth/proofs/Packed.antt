@@ -21,6 +21,7 @@ use Rattle.entries.proofs.Chains.{tally-small}
 use Rattle.fold.specs.Fresh.{sized, freshAnswer}
 use Rattle.fold.specs.Change.{faultOf, changeAnswer}
 use Rattle.booth.specs.Answer.{packedAnswer, packedFold, numberIn, detailIn}
+use Rattle.booth.specs.Marks.{otherSize, marksAnswer}
 use Rattle.booth.specs.Operand.{intoSlot, directAnswer}
 use Rattle.booth.proofs.Bounds.{SheetWithin, sheet-within, fault-small, Small, outcome-small, into-small}
 
@@ -69,6 +70,19 @@ change-small l i ty bits (refused k p) h = unpacked k p (omega (arith, h .0)) (o
 
 pub change-unpacked : (s l : List ℕ) (i ty bits : ℕ) → Unpacks (changeAnswer (readSheet s) l i ty bits)
 change-unpacked s l i ty bits = change-small l i ty bits (readSheet s) (sheet-within s)
+
+size-small : (q : Read Sheet) → SheetWithin 16384 q → Unpacks (otherSize q)
+unfolding otherSize
+size-small (found sh n) h = unpacked 30 0 (omega arith) (omega arith)
+size-small (refused k p) h = unpacked k p (omega (arith, h .0)) (omega (arith, h .1))
+
+pub marks-unpacked : (s l : List ℕ) (i ty bits : ℕ) (m : List ℕ) → Unpacks (marksAnswer (readSheet s) l i ty bits m)
+unfolding marksAnswer
+marks-unpacked s l i ty bits m = go (eqb (length m) 128)
+  where
+    go : (t : Bool) → Unpacks (pick t (changeAnswer (readSheet s) l i ty bits) (otherSize (readSheet s)))
+    go true = change-unpacked s l i ty bits
+    go false = size-small (readSheet s) (sheet-within s)
 
 -- ---- direct calls
 module _ (slot : List ℕ) where

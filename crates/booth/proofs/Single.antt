@@ -14,6 +14,8 @@ use Rattle.booth.proofs.sheet_fresh.Kinds as sheet-fresh-kinds
 use Rattle.booth.proofs.sheet_fresh.Reads as sheet-fresh-reads
 use Rattle.booth.proofs.sheet_change.Kinds as sheet-change-kinds
 use Rattle.booth.proofs.sheet_change.Reads as sheet-change-reads
+use Rattle.booth.proofs.sheet_change_marks.Kinds as sheet-change-marks-kinds
+use Rattle.booth.proofs.sheet_change_marks.Reads as sheet-change-marks-reads
 
 pub sheet-check-one : OneResult 1 sheet-check-kinds.ps sheet-check-kinds.r sheet-check-reads.Post
 sheet-check-one κs a x y s t p q = p ∙ sym q
@@ -33,3 +35,9 @@ sheet-fresh-one κs a x y s t p q = (p .0 ∙ sym (q .0), p .1 ∙ sym (q .1))
 pub sheet-change-one : (κs : Lfts 2) (a : Dens κs sheet-change-kinds.ps) (x y : resT sheet-change-kinds.r κs .Denot) (s t : AtExit (endedOf 2 sheet-change-kinds.ps sheet-change-kinds.r) κs)
     → sheet-change-reads.Post κs a x s → sheet-change-reads.Post κs a y t → (x ≡ y) × (s .1 .0 .now ≡ t .1 .0 .now)
 sheet-change-one κs a x y s t p q = (p .0 ∙ sym (q .0), p .1 ∙ sym (q .1))
+
+pub sheet-change-marks-one : (κs : Lfts 3) (a : Dens κs sheet-change-marks-kinds.ps) (x y : resT sheet-change-marks-kinds.r κs .Denot)
+    (s t : AtExit (endedOf 3 sheet-change-marks-kinds.ps sheet-change-marks-kinds.r) κs)
+    → sheet-change-marks-reads.Post κs a x s → sheet-change-marks-reads.Post κs a y t
+    → (x ≡ y) × (s .1 .0 .now ≡ t .1 .0 .now) × (s .1 .1 .1 .1 .1 .0 .now ≡ t .1 .1 .1 .1 .1 .0 .now)
+sheet-change-marks-one κs a x y s t p q = (p .0 ∙ sym (q .0), p .1 ∙ sym (q .1), p .2 ∙ sym (q .2))

@@ -1,6 +1,7 @@
 // What C calls. A slice is a pointer and a length. An answer is a number in bits 32 to 39 and its detail in bits 0 to 31; the number 0
-// is success. No function has a `requires`.
+// is success. No function that C calls has a `requires`.
 mod direct;
+mod marks; // marks.rt: the marks of a change
 
 use direct::One;
 use low::Counted;
@@ -10,6 +11,7 @@ ghost use Rattle.sheet.specs.Sheet.{readSheet, countedOf};
 ghost use Rattle.fold.specs.Fresh.{freshAnswer, freshBytes};
 ghost use Rattle.fold.specs.Change.{changeAnswer, changeBytes};
 ghost use Rattle.booth.specs.Answer.{packedAnswer, packedFold};
+ghost use Rattle.booth.specs.Marks.{marksAnswer, marksResults, marksBytes};
 ghost use Rattle.booth.specs.Operand.{operandIn, directAnswer, directBytes};
 
 // A number and its detail in one.
@@ -89,4 +91,31 @@ pub extern "C" fn sheet_change(
         × (now (results .exit) ≡ changeBytes (readSheet (now (sheet .entry))) (now (results .entry)) entry ty bits) ⌝ }
 {
     pack_fold(fold::change(sheet, results, entry, ty, bits))
+}
+
+// New content for a setting, and which entries' slots that worked: `marks`, of 128 bytes, takes 1 for the setting and each entry that
+// depends on it, and 0 for every other. The detail is as in `sheet_change`.
+#[no_mangle]
+pub extern "C" fn sheet_change_marks(
+    sheet: &[u8],
+    results: &mut [u8],
+    entry: u64,
+    ty: u8,
+    bits: u64,
+    marks: &mut [u8],
+) -> u64
+    ensures { λ r. ⌜ (r ≡ packedFold (marksAnswer (readSheet (now (sheet .entry))) (now (results .entry)) entry ty bits (now (marks .entry))))
+        × (now (results .exit) ≡ marksResults (readSheet (now (sheet .entry))) (now (results .entry)) entry ty bits (now (marks .entry)))
+        × (now (marks .exit) ≡ marksBytes (readSheet (now (sheet .entry))) (now (results .entry)) entry ty bits (now (marks .entry))) ⌝ }
+{
+    if marks.len() != 128 {
+        return pack_fold(marks::other_size(sheet));
+    }
+    let mut worked = [false; 128];
+    let answer = fold::change_marking(sheet, results, entry, ty, bits, &mut worked);
+    let Counted::Done(n) = answer else {
+        return pack_fold(answer);
+    };
+    marks::put(marks, &worked);
+    pack(0, n as u64)
 }

@@ -2,7 +2,7 @@
 //! Numbers in a list stand low byte first. Ends with status 1 at the first wrong answer.
 use std::{env, fs, process::ExitCode};
 
-use host::{raw_binary, raw_change, raw_check, raw_fresh, raw_unary, SLOT};
+use booth::{raw_binary, raw_change, raw_check, raw_fresh, raw_unary, SLOT};
 
 /// What is left of a list or of one record. Each reader gives nothing where too few bytes are left.
 struct Bytes<'a>(&'a [u8]);

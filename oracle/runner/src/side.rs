@@ -54,18 +54,18 @@ impl Side for Linked {
             v.used().iter().for_each(|bits| bytes.extend(bits.to_le_bytes()));
             bytes
         };
-        let mut slot = [0xaa; host::SLOT];
+        let mut slot = [0xaa; booth::SLOT];
         let left = given(&case.left);
         let answer = match &case.right {
-            None => host::raw_unary(case.op, case.stage, &left, &mut slot),
-            Some(right) => host::raw_binary(case.op, case.stage, &left, &given(right), &mut slot),
+            None => booth::raw_unary(case.op, case.stage, &left, &mut slot),
+            Some(right) => booth::raw_binary(case.op, case.stage, &left, &given(right), &mut slot),
         };
         let (number, detail) = ((answer >> 32) as u8, answer as u32);
         if answer >> 40 != 0 {
             return Err(format!("an answer has bits above 39: {answer:#x}"));
         }
         if number != 0 {
-            return match slot == [0xaa; host::SLOT] {
+            return match slot == [0xaa; booth::SLOT] {
                 true => Ok(Answer::Refused(number, detail)),
                 false => Err("a refusal has written to the slot".into()),
             };

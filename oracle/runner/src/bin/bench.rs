@@ -4,7 +4,7 @@
 //! The sheet has no counterpart in the text: its change is held against its fresh evaluation.
 use std::time::Instant;
 
-use host::{raw_binary, raw_change, raw_check, raw_fresh, raw_unary, SLOT};
+use booth::{raw_binary, raw_change, raw_check, raw_fresh, raw_unary, SLOT};
 use runner::{case::Operand, ops};
 use text::{
     inst::{LiteralInstance, MatInstance, VecInstance},

@@ -1,0 +1,124 @@
+//! The commands, their words and what `--help` says of them.
+use std::path::PathBuf;
+
+use clap::{Args, Parser, Subcommand};
+
+const PROVED: &str = "\
+Every answer is the library's and is proved: which sheets are accepted, what each entry comes to, what a change works, and that no other
+byte moves. Reading your words and printing are this program's, and are not proved.
+
+Status: 0 well, 1 refused, 2 wrong use or file. Complaints go to standard error.";
+
+const EXAMPLES: &str = "\
+Examples:
+  booth make cutter.txt -o cutter.sheet      a sheet from text
+  booth show cutter.sheet                    its constants
+  booth show cutter.sheet --set cell=32      what they would be, and which moved
+  booth explain cutter.sheet limit           which operator gave this one, or why it has no value
+  booth ops                                  operators, types, stages and refusals on one page";
+
+/// Sheets of WGSL constants: make them, show them, change their settings, and see which constant came from what.
+#[derive(Parser)]
+#[command(name = "booth", version, after_help = format!("{EXAMPLES}\n\n{PROVED}"), arg_required_else_help = true)]
+pub struct Line {
+    #[command(subcommand)]
+    pub command: Command,
+}
+
+#[derive(Subcommand)]
+pub enum Command {
+    /// A table of the entries: expressions, and values or why there is none
+    #[command(
+        after_help = "Examples:\n  booth show cutter.sheet\n  booth show cutter.sheet --set cell=32 scale=0.5\n  booth show cutter.sheet --text > cutter.txt"
+    )]
+    Show {
+        sheet: PathBuf,
+        #[command(flatten)]
+        state: State,
+        /// The text that `make` reads, and nothing else
+        #[arg(long, conflicts_with_all = ["json", "set", "results"])]
+        text: bool,
+        /// For programs
+        #[arg(long)]
+        json: bool,
+    },
+    /// Whether a sheet is accepted; if not, which check fails and where
+    Check {
+        sheet: PathBuf,
+        /// For programs
+        #[arg(long)]
+        json: bool,
+    },
+    /// A sheet from text, one entry a line
+    #[command(after_help = MAKE)]
+    Make {
+        text: PathBuf,
+        /// The sheet to write; the names go beside it, into SHEET.names
+        #[arg(short, value_name = "SHEET")]
+        output: PathBuf,
+    },
+    /// The results of a sheet as a file: 136 bytes an entry
+    Fresh {
+        sheet: PathBuf,
+        /// The results to write
+        #[arg(short, value_name = "RESULTS")]
+        output: PathBuf,
+    },
+    /// Changes settings in a results file: all of them, or none if one is refused
+    #[command(after_help = "Example:\n  booth set cutter.sheet cutter.results cell=32 scale=0.5")]
+    Set {
+        sheet: PathBuf,
+        results: PathBuf,
+        /// A setting by name or number, and its new content
+        #[arg(required = true, value_name = "ENTRY=CONTENT")]
+        changes: Vec<String>,
+        /// For programs
+        #[arg(long)]
+        json: bool,
+    },
+    /// The tree of one entry: which operator gave this constant, or why it has none
+    Explain {
+        sheet: PathBuf,
+        /// A name or a number
+        entry: String,
+        #[command(flatten)]
+        state: State,
+        /// For programs
+        #[arg(long)]
+        json: bool,
+    },
+    /// A picture of the entries and who names whom
+    Graph {
+        sheet: PathBuf,
+        /// A setting by name or number: what moves with it is in colour
+        #[arg(long, value_name = "ENTRY")]
+        setting: Option<String>,
+        /// The picture to write: .svg, .png, .pdf, or .dot for graphviz's own words
+        #[arg(short, value_name = "FILE")]
+        output: PathBuf,
+    },
+    /// Operators, types, stages and refusals, with their codes
+    Ops,
+}
+
+const MAKE: &str = "\
+One entry a line; // begins a comment:
+  setting cell: u32 = 5
+  const   step = 0.25f
+  override mask = 1u << cell
+  exec    far = vec3<f32>(1.0, 2.0, 4.0) * step
+
+An entry names earlier ones, by name or as #0. Literals are WGSL's, as `show` prints them: 5, 5i, 5u, 1.5, 1.5f, 1.5h, true,
+vec2<f32>(1.0, 2.0), mat2x2<f32>(..); and inf, inf_f, inf_h, nan, nan_f, nan_h. A - right before a number is part of it; -(5) is
+the operator. Operators bind as in WGSL, which asks for parentheses where most readers would want them.";
+
+/// Which state of a sheet is asked about.
+#[derive(Args)]
+pub struct State {
+    /// After these changes; content is decimal, 0x.. or a WGSL literal, read by the setting's own type
+    #[arg(long, value_name = "ENTRY=CONTENT", num_args = 1..)]
+    pub set: Vec<String>,
+    /// The results in this file, and not fresh ones
+    #[arg(long, value_name = "FILE")]
+    pub results: Option<PathBuf>,
+}
