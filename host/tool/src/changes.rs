@@ -5,7 +5,7 @@ use booth::{Expr, Kind, Refusal, Results, Value};
 use serde_json::{json, Value as Json};
 
 use crate::{
-    ask::Asked,
+    ask::{entries, Asked},
     complaint::{misused, named, refused, Complaint},
 };
 
@@ -50,12 +50,19 @@ fn read(asked: &Asked, word: &str) -> Result<(u32, Value), Complaint> {
     let parts = word.rsplit_once('=').filter(|(name, content)| !name.is_empty() && !content.is_empty());
     let (name, content) = parts.ok_or_else(|| misused(format!("{word}: write ENTRY=CONTENT, as 0=32")))?;
     let place = usize::try_from(asked.number(name)?).unwrap_or(usize::MAX);
-    match asked.sheet.entries().get(place).map(|entry| (entry.kind, &entry.expr)) {
+    let entry = asked.sheet.entries().get(place);
+    match entry.map(|entry| (entry.kind, &entry.expr)) {
         Some((Kind::Setting, Expr::Literal(old))) => {
             let content = Value::read_as(old.ty(), content);
             content.map(|content| (place as u32, content)).map_err(|why| misused(format!("{word}: {why}")))
         }
-        _ => Err(refused(format!("{word}: {}", named(Refusal::NotASetting)))),
+        other => {
+            let why = match other {
+                Some((kind, _)) => format!("entry {place} is no setting, its stage is {kind}"),
+                None => format!("the sheet has {}", entries(asked.sheet.entries().len() as u64)),
+            };
+            Err(refused(format!("{word}: {}; {why}", named(Refusal::NotASetting))))
+        }
     }
 }
 

@@ -174,6 +174,7 @@ impl<'a> Parser<'a> {
             Token::Word(name) if !lexer::is_reserved(name) => self.named(self.told.named(name, self.kind))?,
             Token::Word(name) => match lexer::shape(name) {
                 Some(shape) => Expr::Literal(self.composite(shape)?),
+                None if Value::read(name).is_err() => return fault(word.at.clone(), no_value(name)),
                 None => Expr::Literal(self.scalar(None)?),
             },
             Token::Number(_) | Token::Symbol("-") => Expr::Literal(self.scalar(None)?),
@@ -199,8 +200,9 @@ impl<'a> Parser<'a> {
         };
         let word = self.take();
         let text = match &word.token {
-            Token::Number(text) | Token::Word(text) => format!("{sign}{text}"),
-            _ => return fault(word.at.clone(), "here should stand a number, true or false"),
+            Token::Number(text) => format!("{sign}{text}"),
+            Token::Word(text) if Value::read(text).is_ok() => format!("{sign}{text}"),
+            _ => return fault(word.at.clone(), "here should stand a literal: a number, true or false"),
         };
         let read = match ty {
             Some(ty) => Value::read_as(ty, &text),
@@ -246,6 +248,14 @@ impl<'a> Parser<'a> {
             Some(ty) => self.expect(">", "behind the type").map(|()| ty),
             None => fault(word.at.clone(), "here should stand bool, i32, u32, f32 or f16"),
         }
+    }
+}
+
+/// Why a word of the language is no value.
+fn no_value(name: &str) -> String {
+    match lexer::type_named(name) {
+        Some(_) => format!("a sheet holds no conversion {name}(..): write a literal of the type that you want"),
+        None => format!("{name} has a meaning of its own: an entry of that name stands in quotes"),
     }
 }
 

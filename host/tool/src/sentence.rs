@@ -40,6 +40,10 @@ pub fn of_step(step: &Step, names: &Names) -> String {
                 Refusal::AddOverflow | Refusal::SubOverflow | Refusal::MulOverflow => {
                     format!("beyond the range of {ty}")
                 }
+                Refusal::DivByZero | Refusal::RemZeroDiv if has_zero(right) => match right.is_scalar() {
+                    true => "the divisor is zero".to_owned(),
+                    false => "a component of the divisor is zero".to_owned(),
+                },
                 Refusal::DivByZero => format!("no quotient that {ty} holds"),
                 Refusal::RemZeroDiv => format!("no remainder that {ty} holds"),
                 Refusal::ShlOverflow { count } => {
@@ -69,6 +73,12 @@ fn unpaired(op: Binary, left: &Value, right: &Value) -> String {
         true => format!("{right} does not convert to {}", left.ty()),
         false => format!("{op} does not take {} with {}", of_type(left), of_type(right)),
     }
+}
+
+/// Whether a value, or a component of it, equals zero.
+fn has_zero(value: &Value) -> bool {
+    let equal = zero(value).and_then(|zero| binary(Binary::Eq, Stage::Exec, value, &zero));
+    equal.map_or(false, |equal| equal.components().contains(&1))
 }
 
 /// The zero of a value's type and shape.

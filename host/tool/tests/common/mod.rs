@@ -9,6 +9,13 @@ use std::{
 /// Document 01's example of 59 bytes: a setting of 5, `1u << #0`, and `#1 - 1u`.
 pub const EXAMPLE: &[u8; 59] = include_bytes!("../../../../crates/listing/data/example.sheet");
 
+/// The example with one byte changed.
+pub fn with(place: usize, byte: u8) -> Vec<u8> {
+    let mut sheet = EXAMPLE.to_vec();
+    sheet[place] = byte;
+    sheet
+}
+
 /// A new folder that goes away with its test.
 pub struct Folder(PathBuf);
 
@@ -68,6 +75,17 @@ impl Folder {
         }
     }
 }
+
+/// A folder with the example and its fresh results.
+pub fn example(test: &str) -> Folder {
+    let folder = Folder::new(test);
+    folder.write("a.sheet", EXAMPLE);
+    folder.run("fresh a.sheet -o a.results").well();
+    folder
+}
+
+/// What lies in that folder.
+pub const FILES: [&str; 2] = ["a.results", "a.sheet"];
 
 impl Drop for Folder {
     fn drop(&mut self) {
