@@ -128,13 +128,15 @@ impl Refusal {
                 "the operator does not take two such values, or one does not convert to the other's type"
             }
             Refusal::CompwiseBinary => "the shapes of the two values are not equal",
-            Refusal::AddOverflow => "the sum is beyond what its type holds",
-            Refusal::SubOverflow => "the difference is beyond what its type holds",
-            Refusal::MulOverflow => "the product is beyond what its type holds",
-            Refusal::DivByZero => "the divisor is zero, or the quotient is beyond what its type holds",
-            Refusal::RemZeroDiv => "there is no remainder by this divisor that its type holds",
+            Refusal::AddOverflow => "the sum is outside AbstractInt's 64 bits, or is no finite float",
+            Refusal::SubOverflow => "the difference is outside AbstractInt's 64 bits, or is no finite float",
+            Refusal::MulOverflow => "the product is outside AbstractInt's 64 bits, or is no finite float",
+            Refusal::DivByZero => "a whole number by zero, the least one by -1, or a quotient that is no finite float",
+            Refusal::RemZeroDiv => {
+                "a whole number by zero, the least one by -1, or a remainder that is no finite float"
+            }
             Refusal::SheetTooLong => "the sheet has more than 16,384 bytes",
-            Refusal::ResultsSize => "the results have not 136 bytes for each entry",
+            Refusal::ResultsSize => "the results have not exactly 136 bytes for each entry",
             Refusal::NotASetting => "there is no such entry, or it is no setting",
             Refusal::SettingType => "the new content is not of the setting's type",
             _ => return self.sentence_with_detail(),
@@ -159,6 +161,7 @@ impl Refusal {
             Refusal::BadNode { .. } => {
                 format!("the node at byte {place} has a tag or an operator that does not stand there")
             }
+            Refusal::BadValue { place: 0 } => "an operand or new content is no value of its type".to_owned(),
             Refusal::BadValue { .. } => {
                 format!("the value at byte {place} has a type, a shape or bits that do not stand there")
             }

@@ -1,11 +1,11 @@
 //! What every command asks first: the sheet, its names and its results.
 use std::path::Path;
 
-use booth::{Results, Sheet, SLOT};
+use booth::{Expr, Kind, Refusal, Results, Sheet, Slot, SLOT};
 
 use crate::{
     check,
-    complaint::{misused, named, refused, Complaint},
+    complaint::{called, misused, named, refused, Complaint},
     files,
     names::Names,
 };
@@ -33,12 +33,50 @@ pub fn sheet(path: &Path) -> Result<Asked, Complaint> {
 impl Asked {
     /// The results in a file, or fresh ones.
     pub fn results(&self, path: Option<&Path>) -> Result<Results, Complaint> {
-        let results = match path {
-            Some(path) => Results::of(self.sheet.clone(), files::read(path, Sheet::MOST_ENTRIES * SLOT)?),
-            None => Results::fresh(self.sheet.clone()),
+        let path = match path {
+            Some(path) => path,
+            None => return Results::fresh(self.sheet.clone()).map_err(|refusal| refused(named(refusal))),
         };
-        let place = path.map_or_else(String::new, |path| path.display().to_string() + ": ");
-        results.map_err(|refusal| refused(format!("{place}{}", named(refusal))))
+        let bytes = files::read(path, Sheet::MOST_ENTRIES * SLOT)?;
+        let (found, count) = (bytes.len(), self.sheet.entries().len());
+        let sizes = format!("{} take {} bytes, and it has {found}", entries(count as u64), count * SLOT);
+        Results::of(self.sheet.clone(), bytes)
+            .map_err(|refusal| refused(format!("{}: {}; {sizes}", path.display(), named(refusal))))
+    }
+
+    /// A sentence where results are not of this sheet: which slots do not hold what their expressions give over the other slots. Nothing
+    /// refuses such results, so they are shown and changed as they stand.
+    pub fn doubt(&self, path: &Path, results: &Results) -> Option<String> {
+        let all = 0..self.sheet.entries().len() as u32;
+        let strange: Vec<String> =
+            all.filter(|entry| is_strange(results, *entry)).map(|entry| self.names.write(entry)).collect();
+        let words = format!(
+            "{}: not worked out from this sheet: the slot of {} is not what its entry gives over the other slots. \
+             `booth fresh` makes results anew",
+            path.display(),
+            strange.join(", of ")
+        );
+        Some(words).filter(|_| !strange.is_empty())
+    }
+
+    /// A line that names the entries without a value, if there are any.
+    pub fn without_line(&self, results: &Results) -> String {
+        let names: Vec<String> = without_value(results).into_iter().map(|entry| self.names.write(entry)).collect();
+        match names.len() {
+            0 => String::new(),
+            _ => format!("no value: {}\n", names.join(", ")),
+        }
+    }
+
+    /// The setting that a word means; `whole` is what a refusal quotes.
+    pub fn setting(&self, word: &str, whole: &str) -> Result<u32, Complaint> {
+        let number = self.number(word)?;
+        let why = match usize::try_from(number).ok().and_then(|place| self.sheet.entries().get(place)) {
+            Some(entry) if entry.kind == Kind::Setting => return Ok(number as u32),
+            Some(entry) => format!("entry {number} is no setting, its stage is {}", entry.kind),
+            None => format!("there is no entry {word}, the sheet has {}", entries(self.sheet.entries().len() as u64)),
+        };
+        Err(refused(format!("{whole}: {}: {why}", called(Refusal::NotASetting))))
     }
 
     /// The entry that a word means.
@@ -60,9 +98,31 @@ impl Asked {
     pub fn known(&self) -> String {
         let names: Vec<&str> = self.names.0.iter().flatten().map(String::as_str).collect();
         match names.len() {
-            0 => "it has no names, so entries go by their numbers".to_owned(),
-            _ => format!("its names are {}", names.join(", ")),
+            0 => "the sheet has no names, so entries go by their numbers".to_owned(),
+            _ => format!("the sheet's names are {}", names.join(", ")),
         }
+    }
+}
+
+/// The entries without a value.
+pub fn without_value(results: &Results) -> Vec<u32> {
+    let has_none = |entry: &u32| results.slot(*entry).map_or(true, |slot| slot.value().is_none());
+    (0..results.sheet().entries().len() as u32).filter(has_none).collect()
+}
+
+/// Whether a slot holds what no fresh evaluation and no change would leave there beside the others.
+fn is_strange(results: &Results, entry: u32) -> bool {
+    let step = match results.explain(entry) {
+        Some(step) => step,
+        None => return false,
+    };
+    match (results.sheet().entries()[entry as usize].kind, step.came_to) {
+        (Kind::Setting, Slot::Value(value)) => match step.expr {
+            Expr::Literal(body) => !value.is_scalar() || value.ty() != body.ty(),
+            _ => true,
+        },
+        (Kind::Setting, _) => true,
+        (_, gives) => results.slot(entry) != Some(gives),
     }
 }
 

@@ -1,11 +1,11 @@
 //! Changes of settings: words read by the setting's own type, and what moved.
 use std::collections::BTreeSet;
 
-use booth::{Expr, Kind, Refusal, Results, Value};
+use booth::{Expr, Refusal, Results, Value};
 use serde_json::{json, Value as Json};
 
 use crate::{
-    ask::{entries, Asked},
+    ask::{without_value, Asked},
     complaint::{misused, named, refused, Complaint},
 };
 
@@ -20,6 +20,8 @@ pub struct Moved {
     pub changed: Vec<u32>,
     /// All other slots whose bytes are others now.
     pub others: Vec<u32>,
+    /// The entries that have no value now, whether or not they moved.
+    pub without: Vec<u32>,
 }
 
 /// Makes changes such as `0=32`, `cell=0x20` or `scale=1.5f` one after another.
@@ -41,6 +43,7 @@ pub fn make(asked: &Asked, results: &mut Results, words: &[String]) -> Result<Mo
         changed: worked.iter().copied().filter(differs).collect(),
         others: all.filter(|entry| !worked.contains(entry) && !is_given(entry) && differs(entry)).collect(),
         had_to: worked.into_iter().collect(),
+        without: without_value(results),
         given,
     })
 }
@@ -49,20 +52,14 @@ pub fn make(asked: &Asked, results: &mut Results, words: &[String]) -> Result<Mo
 fn read(asked: &Asked, word: &str) -> Result<(u32, Value), Complaint> {
     let parts = word.rsplit_once('=').filter(|(name, content)| !name.is_empty() && !content.is_empty());
     let (name, content) = parts.ok_or_else(|| misused(format!("{word}: write ENTRY=CONTENT, as 0=32")))?;
-    let place = usize::try_from(asked.number(name)?).unwrap_or(usize::MAX);
-    let entry = asked.sheet.entries().get(place);
-    match entry.map(|entry| (entry.kind, &entry.expr)) {
-        Some((Kind::Setting, Expr::Literal(old))) => {
+    let entry = asked.setting(name, word)?;
+    match &asked.sheet.entries()[entry as usize].expr {
+        Expr::Literal(old) => {
             let content = Value::read_as(old.ty(), content);
-            content.map(|content| (place as u32, content)).map_err(|why| misused(format!("{word}: {why}")))
+            content.map(|content| (entry, content)).map_err(|why| misused(format!("{word}: {why}")))
         }
-        other => {
-            let why = match other {
-                Some((kind, _)) => format!("entry {place} is no setting, its stage is {kind}"),
-                None => format!("the sheet has {}", entries(asked.sheet.entries().len() as u64)),
-            };
-            Err(refused(format!("{word}: {}; {why}", named(Refusal::NotASetting))))
-        }
+        // No setting of an accepted sheet is anything else.
+        _ => Err(refused(format!("{word}: {}", named(Refusal::NotASetting)))),
     }
 }
 
@@ -87,6 +84,12 @@ impl Moved {
             .iter()
             .map(|(entry, content)| json!({ "entry": entry, "content": content.to_string() }))
             .collect();
-        json!({ "set": given, "had_to_move": self.had_to, "changed": self.changed, "others_changed": self.others })
+        json!({
+            "set": given,
+            "had_to_move": self.had_to,
+            "changed": self.changed,
+            "others_changed": self.others,
+            "no_value": self.without,
+        })
     }
 }

@@ -4,7 +4,7 @@ use std::path::Path;
 use booth::{Refusal, Sheet};
 use serde_json::{json, Value as Json};
 
-use crate::ask::entries;
+use crate::{ask::entries, complaint::called};
 
 /// `ok: 3 entries, 59 bytes`.
 pub fn accepted(sheet: &Sheet) -> String {
@@ -13,12 +13,27 @@ pub fn accepted(sheet: &Sheet) -> String {
 
 /// A refused sheet in words: the name and the sentence, and the bytes around the place with a mark under it.
 pub fn shown(path: &Path, bytes: &[u8], refusal: Refusal) -> String {
-    let head =
-        format!("{} is refused: {} ({}): {}", path.display(), refusal.name(), refusal.number(), refusal.sentence());
+    let sentence = match refusal {
+        // The byte is there, but another record's or nobody's: the body's length ends it before.
+        Refusal::CutShort { place } if (place as usize) < bytes.len() => {
+            format!("the record's body ends before byte {place}, and its expression goes on")
+        }
+        Refusal::BadMark { place: 0 } if is_text(bytes) => {
+            format!("{}; this looks like text, of which `booth make` makes a sheet", refusal.sentence())
+        }
+        _ => refusal.sentence(),
+    };
+    let head = format!("{} is refused: {}: {sentence}", path.display(), called(refusal));
     match refusal {
         Refusal::SheetTooLong => head,
         _ => format!("{head}\n{}", around(bytes, refusal.detail() as usize)),
     }
+}
+
+/// Whether bytes are the text that `make` reads, or meant to be.
+fn is_text(bytes: &[u8]) -> bool {
+    let text = std::str::from_utf8(bytes).unwrap_or("").trim_start_matches('\u{feff}').trim_start();
+    ["setting", "const", "override", "exec", "//"].into_iter().any(|word| text.starts_with(word))
 }
 
 const ROW: usize = 16;

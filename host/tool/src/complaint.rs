@@ -32,9 +32,14 @@ pub fn reason(error: &io::Error) -> String {
     words.split(" (os error").next().unwrap_or(&words).to_owned()
 }
 
+/// A refusal by name and number.
+pub fn called(refusal: Refusal) -> String {
+    format!("{} ({})", refusal.name(), refusal.number())
+}
+
 /// A refusal by name, number and sentence.
 pub fn named(refusal: Refusal) -> String {
-    format!("{} ({}): {}", refusal.name(), refusal.number(), refusal.sentence())
+    format!("{}: {}", called(refusal), refusal.sentence())
 }
 
 /// Text for a terminal: what would steer it is shown as a mark, but for line ends and tabs.

@@ -21,6 +21,10 @@ pub fn read(path: &Path, most: usize) -> Result<Vec<u8>, Complaint> {
 /// Writes files so that after a crash each is the old or the new one whole: each goes into a new file beside its place, and all are moved
 /// there once all are written. A device or a pipe is written to as it is.
 pub fn write(files: &[(&Path, &[u8])]) -> Result<(), Complaint> {
+    // Moving a file over one that is write-protected would go well, and is not what its owner wants.
+    if let Some((path, _)) = files.iter().find(|(path, _)| is_protected(path)) {
+        return Err(misused(format!("cannot write {}: it is write-protected", path.display())));
+    }
     let mut waiting: Vec<New> = Vec::new();
     for (path, bytes) in files {
         let made =
@@ -32,6 +36,19 @@ pub fn write(files: &[(&Path, &[u8])]) -> Result<(), Complaint> {
         new.settle().map_err(|error| unusable("write", &path, &error))?;
     }
     Ok(())
+}
+
+/// Refuses to write over what an answer is made of.
+pub fn apart(output: &Path, sources: &[&Path]) -> Result<(), Complaint> {
+    let real = |path: &Path| fs::canonicalize(path).ok();
+    match sources.iter().any(|source| real(source).is_some() && real(source) == real(output)) {
+        true => Err(misused(format!("{} is what this is made of, and would be lost", output.display()))),
+        false => Ok(()),
+    }
+}
+
+fn is_protected(path: &Path) -> bool {
+    fs::metadata(path).map_or(false, |data| data.is_file() && data.permissions().readonly())
 }
 
 /// Whether a path is, or will be, a file that another can be moved over.

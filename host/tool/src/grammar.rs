@@ -12,6 +12,9 @@ use crate::{
 /// How far parentheses and signs may stand in one another.
 const MOST_NESTED: usize = 200;
 
+const LITERAL: &str =
+    "here should stand a literal: a number, true or false; settings, vectors and matrices are written with literals";
+
 /// Reads the words of a line behind the entry's name.
 pub struct Parser<'a> {
     words: &'a [Lexeme],
@@ -158,6 +161,11 @@ impl<'a> Parser<'a> {
         }
     }
 
+    /// Whether parentheses stand behind the word here.
+    fn is_call(&self) -> bool {
+        self.words.get(self.at + 1).map_or(false, |word| word.token == Token::Symbol("("))
+    }
+
     fn primary(&mut self) -> Result<Part, Fault> {
         let word = self.next();
         let start = word.at.start;
@@ -171,6 +179,12 @@ impl<'a> Parser<'a> {
             }
             Token::Entry(number) => self.named(self.told.numbered(*number, self.kind))?,
             Token::Quoted(name) => self.named(self.told.named(name, self.kind))?,
+            Token::Word(name) if !lexer::is_reserved(name) && self.is_call() => {
+                return fault(
+                    word.at.clone(),
+                    format!("a sheet holds no functions: {name}(..) is none of its operators"),
+                );
+            }
             Token::Word(name) if !lexer::is_reserved(name) => self.named(self.told.named(name, self.kind))?,
             Token::Word(name) => match lexer::shape(name) {
                 Some(shape) => Expr::Literal(self.composite(shape)?),
@@ -202,7 +216,7 @@ impl<'a> Parser<'a> {
         let text = match &word.token {
             Token::Number(text) => format!("{sign}{text}"),
             Token::Word(text) if Value::read(text).is_ok() => format!("{sign}{text}"),
-            _ => return fault(word.at.clone(), "here should stand a literal: a number, true or false"),
+            _ => return fault(word.at.clone(), LITERAL),
         };
         let read = match ty {
             Some(ty) => Value::read_as(ty, &text),
@@ -223,6 +237,10 @@ impl<'a> Parser<'a> {
             parts.push(self.scalar(asked)?);
         }
         let at = start..self.next().at.end;
+        if self.is(",") && self.words.get(self.at + 1).map_or(false, |word| word.token == Token::Symbol(")")) {
+            // WGSL lets a comma stand behind the last one.
+            self.at += 1;
+        }
         if self.is(",") || parts.len() < wanted && self.is(")") {
             let found = if self.is(",") { "more" } else { "fewer" };
             return fault(at, format!("this has {wanted} components, and {found} stand here"));
@@ -254,7 +272,7 @@ impl<'a> Parser<'a> {
 /// Why a word of the language is no value.
 fn no_value(name: &str) -> String {
     match lexer::type_named(name) {
-        Some(_) => format!("a sheet holds no conversion {name}(..): write a literal of the type that you want"),
+        Some(_) => format!("a sheet holds no conversion {name}(..): give the literal or the setting the type you want"),
         None => format!("{name} has a meaning of its own: an entry of that name stands in quotes"),
     }
 }

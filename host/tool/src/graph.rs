@@ -88,10 +88,10 @@ fn label(lines: &[String]) -> String {
 
 /// The picture's bytes for a file: DOT for `.dot`, and else what graphviz draws for the ending, as `.svg`, `.png` or `.pdf`.
 pub fn drawn(dot: &str, path: &Path) -> Result<Vec<u8>, Complaint> {
-    let ending = path.extension().and_then(|ending| ending.to_str()).unwrap_or("");
-    match ending {
+    let ending = path.extension().and_then(|ending| ending.to_str()).unwrap_or("").to_ascii_lowercase();
+    match &*ending {
         "dot" => Ok(dot.as_bytes().to_vec()),
-        "svg" | "png" | "pdf" => run(dot, ending),
+        "svg" | "png" | "pdf" => run(dot, &ending),
         _ => Err(misused(format!("{}: a picture's name ends with .svg, .png, .pdf or .dot", path.display()))),
     }
 }

@@ -57,6 +57,10 @@ pub fn lexemes(line: &str) -> Result<Vec<Lexeme>, Fault> {
                 continue;
             }
             '/' if rest.get(1) == Some(&'/') => break,
+            '/' if rest.get(1) == Some(&'*') => {
+                return fault(at..at + 2, "a comment begins with // and ends with its line");
+            }
+            ';' => return fault(at..at + 1, "an entry ends with its line, without ;"),
             '-' if rest.get(1) == Some(&'-') => {
                 return fault(at..at + 2, "-- is no operator of WGSL: put the second - in parentheses");
             }

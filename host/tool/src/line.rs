@@ -1,5 +1,5 @@
 //! The commands, their words and what `--help` says of them.
-use std::path::PathBuf;
+use std::{ffi::OsString, path::PathBuf};
 
 use clap::{Args, Parser, Subcommand};
 
@@ -32,6 +32,7 @@ pub enum Command {
         after_help = "Examples:\n  booth show cutter.sheet\n  booth show cutter.sheet --set cell=32 scale=0.5\n  booth show cutter.sheet --text > cutter.txt"
     )]
     Show {
+        /// A file with a sheet
         sheet: PathBuf,
         #[command(flatten)]
         state: State,
@@ -44,6 +45,7 @@ pub enum Command {
     },
     /// Whether a sheet is accepted; if not, which check fails and where
     Check {
+        /// A file with a sheet
         sheet: PathBuf,
         /// For programs
         #[arg(long)]
@@ -52,6 +54,7 @@ pub enum Command {
     /// A sheet from text, one entry a line
     #[command(after_help = MAKE)]
     Make {
+        /// A file with the text
         text: PathBuf,
         /// The sheet to write; the names go beside it, into SHEET.names
         #[arg(short, value_name = "SHEET")]
@@ -59,6 +62,7 @@ pub enum Command {
     },
     /// The results of a sheet as a file: 136 bytes an entry
     Fresh {
+        /// A file with a sheet
         sheet: PathBuf,
         /// The results to write
         #[arg(short, value_name = "RESULTS")]
@@ -67,7 +71,9 @@ pub enum Command {
     /// Changes settings in a results file: all of them, or none if one is refused
     #[command(after_help = "Example:\n  booth set cutter.sheet cutter.results cell=32 scale=0.5")]
     Set {
+        /// A file with a sheet
         sheet: PathBuf,
+        /// The results of that sheet, as `fresh` wrote them
         results: PathBuf,
         /// A setting by name or number, and its new content
         #[arg(required = true, value_name = "ENTRY=CONTENT")]
@@ -78,6 +84,7 @@ pub enum Command {
     },
     /// The tree of one entry: which operator gave this constant, or why it has none
     Explain {
+        /// A file with a sheet
         sheet: PathBuf,
         /// A name or a number
         entry: String,
@@ -89,6 +96,7 @@ pub enum Command {
     },
     /// A picture of the entries and who names whom
     Graph {
+        /// A file with a sheet
         sheet: PathBuf,
         /// A setting by name or number: what moves with it is in colour
         #[arg(long, value_name = "ENTRY")]
@@ -108,15 +116,42 @@ One entry a line; // begins a comment:
   override mask = 1u << cell
   exec    far = vec3<f32>(1.0, 2.0, 4.0) * step
 
-An entry names earlier ones, by name or as #0. Literals are WGSL's, as `show` prints them: 5, 5i, 5u, 1.5, 1.5f, 1.5h, true,
-vec2<f32>(1.0, 2.0), mat2x2<f32>(..); and inf, inf_f, inf_h, nan, nan_f, nan_h. A - right before a number is part of it; -(5) is
-the operator. Operators bind as in WGSL, which asks for parentheses where most readers would want them.";
+An entry names earlier ones, by name or as #0. A name that is not one word stands in quotes: \"cell size\". An entry without a name
+is called by its number: const #3 = 1.
+
+Literals are WGSL's, as `show` prints them: 5, 5i, 5u, 1.5, 1.5f, 1.5h, true, vec2<f32>(1.0, 2.0), mat2x2<f32>(..); and inf, inf_f,
+inf_h, nan, nan_f, nan_h. A - right before a number is part of it; -(5) is the operator. Settings, vectors and matrices are written
+with literals only: vec2<f32>(1.0, 1.0) * scale is a vector of a setting. Operators bind as in WGSL, which asks for parentheses
+where most readers would want them. There are no functions and no conversions.
+
+A sheet holds 128 entries, 16,384 bytes, expressions 32 deep.";
+
+/// Each change behind `--set` as a word of its own, `--set=cell=32`: so `--set` takes every word that is one, and no file behind them.
+pub fn spread(words: impl Iterator<Item = OsString>) -> Vec<OsString> {
+    let (mut all, mut changes) = (Vec::new(), false);
+    for word in words {
+        let is_change = word.to_str().map_or(false, |text| text.contains('=') && !text.starts_with("--"));
+        if changes && is_change {
+            // The word `--set` itself goes with its first change.
+            if all.last().map_or(false, |last| last == "--set") {
+                all.pop();
+            }
+            let mut whole = OsString::from("--set=");
+            whole.push(word);
+            all.push(whole);
+        } else {
+            changes = word == "--set";
+            all.push(word);
+        }
+    }
+    all
+}
 
 /// Which state of a sheet is asked about.
 #[derive(Args)]
 pub struct State {
-    /// After these changes; content is decimal, 0x.. or a WGSL literal, read by the setting's own type
-    #[arg(long, value_name = "ENTRY=CONTENT", num_args = 1..)]
+    /// After these changes, one or more; content is decimal, 0x.. or a WGSL literal, read by the setting's own type
+    #[arg(long, value_name = "ENTRY=CONTENT")]
     pub set: Vec<String>,
     /// The results in this file, and not fresh ones
     #[arg(long, value_name = "FILE")]

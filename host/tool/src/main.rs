@@ -1,7 +1,7 @@
 //! The command line: each command's words to what it prints, and the status.
 use std::{path::Path, process::ExitCode};
 
-use booth::Sheet;
+use booth::{Results, Sheet};
 use clap::Parser;
 use serde_json::Value as Json;
 use tool::{
@@ -9,14 +9,14 @@ use tool::{
     changes, check,
     complaint::{misused, plain, refused, Complaint},
     explain, files, graph,
-    line::{Command, Line, State},
+    line::{self, Command, Line, State},
     make,
-    names::beside,
+    names::{beside, Names},
     ops, show, text,
 };
 
 fn main() -> ExitCode {
-    let answered = match Line::try_parse() {
+    let answered = match Line::try_parse_from(line::spread(std::env::args_os())) {
         Ok(line) => answer(line.command),
         // Help that was asked for is an answer too.
         Err(words) if !words.use_stderr() => Ok(words.render().to_string()),
@@ -46,6 +46,18 @@ fn ask(path: &Path) -> Result<Asked, Complaint> {
     Ok(asked)
 }
 
+/// The results in a file, or fresh ones. What makes the file doubtful is said beside the answer.
+fn given(asked: &Asked, path: Option<&Path>) -> Result<Results, Complaint> {
+    let results = asked.results(path)?;
+    path.and_then(|path| asked.doubt(path, &results)).iter().for_each(|note| complain(note));
+    Ok(results)
+}
+
+/// `cutter.sheet: 5 entries, 113 bytes`.
+fn written(path: &Path, asked: &Asked, bytes: usize) -> String {
+    format!("{}: {}, {bytes} bytes\n", path.display(), ask::entries(asked.sheet.entries().len() as u64))
+}
+
 fn pretty(json: &Json) -> String {
     format!("{json:#}\n")
 }
@@ -60,15 +72,15 @@ fn answer(command: Command) -> Result<String, Complaint> {
         Command::Fresh { sheet, output } => {
             let asked = ask(&sheet)?;
             let results = asked.results(None)?;
+            files::apart(&output, &[&sheet, &beside(&sheet)])?;
             files::write(&[(&output, results.bytes())])?;
-            let (count, bytes) = (asked.sheet.entries().len(), results.bytes().len());
-            Ok(format!("{}: {}, {bytes} bytes\n", output.display(), ask::entries(count as u64)))
+            Ok(written(&output, &asked, results.bytes().len()) + &asked.without_line(&results))
         }
         Command::Set { sheet, results, changes, json } => set(&sheet, &results, &changes, json),
         Command::Explain { sheet, entry, state, json } => {
             let asked = ask(&sheet)?;
             let entry = asked.entry(&entry)?;
-            let mut results = asked.results(state.results.as_deref())?;
+            let mut results = given(&asked, state.results.as_deref())?;
             changes::make(&asked, &mut results, &state.set)?;
             match json {
                 true => Ok(pretty(&explain::json(&asked, &results, entry))),
@@ -77,8 +89,9 @@ fn answer(command: Command) -> Result<String, Complaint> {
         }
         Command::Graph { sheet, setting, output } => {
             let asked = ask(&sheet)?;
-            let setting = setting.map(|word| asked.entry(&word)).transpose()?;
+            let setting = setting.map(|word| asked.setting(&word, &word)).transpose()?;
             let dot = graph::dot(&asked, &asked.results(None)?, setting)?;
+            files::apart(&output, &[&sheet, &beside(&sheet)])?;
             files::write(&[(&output, &graph::drawn(&dot, &output)?)])?;
             Ok(format!("{}: {}\n", output.display(), ask::entries(asked.sheet.entries().len() as u64)))
         }
@@ -88,7 +101,7 @@ fn answer(command: Command) -> Result<String, Complaint> {
 
 fn show(sheet: &Path, state: &State, json: bool) -> Result<String, Complaint> {
     let asked = ask(sheet)?;
-    let mut results = asked.results(state.results.as_deref())?;
+    let mut results = given(&asked, state.results.as_deref())?;
     let moved = changes::make(&asked, &mut results, &state.set)?;
     let changed = !state.set.is_empty();
     if json {
@@ -125,13 +138,20 @@ fn write_sheet(path: &Path, output: &Path) -> Result<String, Complaint> {
     }
     let source = path.display().to_string();
     let (sheet, names) = make::of_bytes(&source, &bytes)?;
-    let lines = names.lines();
-    let names_path = beside(output);
-    match files::is_plain(output) {
-        true => files::write(&[(output, sheet.bytes()), (&names_path, lines.as_bytes())])?,
-        false => files::write(&[(output, sheet.bytes())])?,
+    let asked = Asked { sheet, names, note: None };
+    write_with_names(output, path, asked.sheet.bytes(), &asked.names)?;
+    Ok(written(output, &asked, asked.sheet.bytes().len()) + &asked.without_line(&asked.results(None)?))
+}
+
+/// The sheet and, where it is a file, its names beside it. Neither is written over the text.
+fn write_with_names(output: &Path, text: &Path, sheet: &[u8], names: &Names) -> Result<(), Complaint> {
+    let (names_path, lines) = (beside(output), names.lines());
+    files::apart(output, &[text])?;
+    if !files::is_plain(output) {
+        return files::write(&[(output, sheet)]);
     }
-    Ok(format!("{}: {}, {} bytes\n", output.display(), ask::entries(sheet.entries().len() as u64), sheet.bytes().len()))
+    files::apart(&names_path, &[text])?;
+    files::write(&[(output, sheet), (&names_path, lines.as_bytes())])
 }
 
 fn set(sheet: &Path, path: &Path, words: &[String], json: bool) -> Result<String, Complaint> {
@@ -139,11 +159,12 @@ fn set(sheet: &Path, path: &Path, words: &[String], json: bool) -> Result<String
     if !files::is_plain(path) {
         return Err(misused(format!("{} is no file that can be replaced", path.display())));
     }
-    let mut results = asked.results(Some(path))?;
+    let mut results = given(&asked, Some(path))?;
     let moved = changes::make(&asked, &mut results, words)?;
+    files::apart(path, &[sheet, &beside(sheet)])?;
     files::write(&[(path, results.bytes())])?;
     match json {
         true => Ok(pretty(&moved.json())),
-        false => Ok(moved.lines(&asked)),
+        false => Ok(moved.lines(&asked) + &asked.without_line(&results)),
     }
 }

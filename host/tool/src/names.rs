@@ -6,7 +6,7 @@ use std::{
 
 use booth::Sheet;
 
-use crate::{complaint::Complaint, files, text};
+use crate::{ask, complaint::Complaint, files, text};
 
 /// The longest name, in characters.
 pub const LONGEST: usize = 64;
@@ -42,7 +42,8 @@ impl Names {
         let text = std::str::from_utf8(bytes).map_err(|_| "it is no text".to_owned())?;
         let lines: Vec<&str> = text.lines().collect();
         if lines.len() != entries {
-            return Err(format!("it has {} lines, and the sheet has {entries} entries", lines.len()));
+            let found = if lines.len() == 1 { "1 line".to_owned() } else { format!("{} lines", lines.len()) };
+            return Err(format!("it has {found}, and the sheet has {}", ask::entries(entries as u64)));
         }
         let mut seen = HashSet::new();
         for (line, name) in (1..).zip(&lines).filter(|(_, name)| !name.is_empty()) {

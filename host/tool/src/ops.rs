@@ -13,15 +13,15 @@ pub fn page() -> String {
         text += &format!("  {}  {:<14} {}\n", stage as u8, stage.name(), of_stage(stage));
     }
     text += "  3  setting        one value that can be changed; to others it counts as override\n";
-    text += "\nOperators on one value (code, sign)\n";
+    text += "\nOperators on one value (code, sign), a scalar or each component of a vector\n";
     for op in Unary::ALL {
         text += &format!("  {:>2}  {:<3} {}\n", op as u8, op.symbol(), of_unary(op));
     }
-    text += "\nOperators on two values (code, sign)\n";
+    text += "\nOperators on two values (code, sign), scalars or vectors component by component, + - * / % also a scalar with a vector\n";
     for op in Binary::ALL {
         text += &format!("  {:>2}  {:<3} {}\n", op as u8, op.symbol(), of_binary(op));
     }
-    text += "\nRefusals (number, name)\n";
+    text += "\nRefusals (number, name). What a sheet refuses has a byte place as its detail, what a single call refuses has 0.\n";
     for refusal in (1..=u8::MAX).filter_map(|number| Refusal::new(number, 0)) {
         if !matches!(refusal, Refusal::Other { .. }) {
             text += &format!("  {:>2}  {:<15} {}\n", refusal.number(), refusal.name(), of_refusal(refusal));
@@ -46,13 +46,15 @@ fn of_stage(stage: Stage) -> &'static str {
     match stage {
         Stage::Const => "known when the shader is written; names const entries only",
         Stage::Override => "known when the pipeline is made; names const and override entries and settings",
-        Stage::Exec => "worked out as the shader would at run time, where fewer results are refused",
+        Stage::Exec => {
+            "by the rules for run time, where fewer results are refused; names entries of every stage and settings"
+        }
     }
 }
 
 fn of_unary(op: Unary) -> &'static str {
     match op {
-        Unary::Not => "not: of a bool",
+        Unary::Not => "not: of bools",
         Unary::Neg => "the negative: of numbers but u32; a whole number's least is its own",
         Unary::BitNot => "all bits turned over: of whole numbers",
     }
@@ -60,13 +62,13 @@ fn of_unary(op: Unary) -> &'static str {
 
 fn of_binary(op: Binary) -> &'static str {
     match op {
-        Binary::Or => "or: of two bools; both sides are worked out",
-        Binary::And => "and: of two bools; both sides are worked out",
-        Binary::Add => "sum; i32 and u32 wrap around",
-        Binary::Sub => "difference; i32 and u32 wrap around",
-        Binary::Mul => "product; i32 and u32 wrap around; also of matrices and vectors",
-        Binary::Div => "quotient, cut towards zero for whole numbers",
-        Binary::Rem => "remainder with the left one's sign",
+        Binary::Or => "or: of two bools, no vectors; both sides are worked out",
+        Binary::And => "and: of two bools, no vectors; both sides are worked out",
+        Binary::Add => "sum; i32 and u32 wrap around; also of two matrices",
+        Binary::Sub => "difference; i32 and u32 wrap around; also of two matrices",
+        Binary::Mul => "product; i32 and u32 wrap around; also with matrices",
+        Binary::Div => "quotient, cut towards zero for whole numbers; in exec the left value where it would be refused",
+        Binary::Rem => "remainder with the left one's sign; in exec 0 where whole numbers would be refused",
         Binary::Eq => "equal: a bool for each component",
         Binary::Ne => "not equal",
         Binary::Lt => "less; not of bools",
@@ -76,15 +78,17 @@ fn of_binary(op: Binary) -> &'static str {
         Binary::BitOr => "or, bit by bit: of bools and whole numbers",
         Binary::BitAnd => "and, bit by bit: of bools and whole numbers",
         Binary::BitXor => "either or, bit by bit: of whole numbers",
-        Binary::Shl => "shifted left by a u32; refused before exec where it would lose a bit",
-        Binary::Shr => "shifted right by a u32, the sign kept",
+        Binary::Shl => "left times 2 to the count, a u32; in exec i32 and u32 take the count modulo 32 and wrap around",
+        Binary::Shr => "left by 2 to the count, a u32, rounded down; in exec i32 and u32 take the count modulo 32",
     }
 }
 
 fn of_refusal(refusal: Refusal) -> String {
     match refusal {
-        Refusal::ShlOverflow { .. } => "the left shift leaves no room for the count (detail: the count)".to_owned(),
-        Refusal::ShrOverflow { .. } => "32 bits cannot be shifted right by the count (detail: the count)".to_owned(),
+        Refusal::ShlOverflow { .. } => {
+            "before exec: i32 or u32 by more than 31, or a result outside its type (detail: the count)".to_owned()
+        }
+        Refusal::ShrOverflow { .. } => "before exec: i32 or u32 by more than 31 (detail: the count)".to_owned(),
         Refusal::FromEntry { .. } => "the entry that is named has no value (detail: that entry)".to_owned(),
         Refusal::BadMark { .. } => "a record does not begin with D5 17 (detail: the record's place)".to_owned(),
         Refusal::CutShort { .. } => "a byte is missing (detail: its place)".to_owned(),
@@ -92,7 +96,9 @@ fn of_refusal(refusal: Refusal) -> String {
             "a stage is unknown, or later than that of an entry that names it (detail: the place)".to_owned()
         }
         Refusal::TooManyEntries { .. } => "there are more than 128 entries (detail: the record's place)".to_owned(),
-        Refusal::BadNode { .. } => "a tag or an operator is unknown (detail: the node's place)".to_owned(),
+        Refusal::BadNode { .. } => {
+            "a tag or an operator is unknown, or does not stand in a setting (detail: the node's place)".to_owned()
+        }
         Refusal::BadValue { .. } => {
             "a type, a shape or bits that do not stand there (detail: the node's place, 0 for new content)".to_owned()
         }

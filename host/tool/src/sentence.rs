@@ -37,15 +37,16 @@ pub fn of_step(step: &Step, names: &Names) -> String {
                 Refusal::CompwiseBinary => {
                     format!("{} and {} have unequal shapes", left.type_name(), right.type_name())
                 }
-                Refusal::AddOverflow | Refusal::SubOverflow | Refusal::MulOverflow => {
-                    format!("beyond the range of {ty}")
-                }
+                Refusal::AddOverflow | Refusal::SubOverflow | Refusal::MulOverflow => match ty.is_float() {
+                    true => format!("not finite in {ty}"),
+                    false => format!("beyond the range of {ty}"),
+                },
                 Refusal::DivByZero | Refusal::RemZeroDiv if has_zero(right) => match right.is_scalar() {
                     true => "the divisor is zero".to_owned(),
                     false => "a component of the divisor is zero".to_owned(),
                 },
-                Refusal::DivByZero => format!("no quotient that {ty} holds"),
-                Refusal::RemZeroDiv => format!("no remainder that {ty} holds"),
+                Refusal::DivByZero | Refusal::RemZeroDiv if ty.is_float() => format!("not finite in {ty}"),
+                Refusal::DivByZero | Refusal::RemZeroDiv => format!("the least {ty} by -1"),
                 Refusal::ShlOverflow { count } => {
                     return format!("ShlOverflow: {whole} leaves no room for the count {count}")
                 }

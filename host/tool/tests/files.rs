@@ -8,7 +8,7 @@ use std::{
     process::Stdio,
 };
 
-use common::{example, sentence, with, Folder, FILES};
+use common::{example, sentence, with, Folder, EXAMPLE, FILES};
 
 #[test]
 fn bad_words_and_flags() {
@@ -50,7 +50,7 @@ fn bad_words_and_flags() {
     for words in [&["show", ""][..], &["make", "a.txt", "-o", ""], &["fresh", "a.sheet", "-o", ""]] {
         folder.booth(words).failed(2);
     }
-    for picture in ["b", "b.gif", "b.SVG", ".dot", "b.dot.txt", "b.sheet"] {
+    for picture in ["b", "b.gif", "b.svgz", ".dot", "b.dot.txt", "b.sheet"] {
         folder.run(&format!("graph a.sheet -o {picture}")).failed(2).holds(&[picture, ".svg", ".dot"]);
     }
     assert_eq!(folder.names(), FILES);
@@ -253,17 +253,81 @@ fn nothing_is_left_of_what_failed() {
     }
 }
 
+/// What an answer is made of is not replaced by it, however the file is called.
+#[test]
+fn nothing_is_written_over_its_source() {
+    let folder = example("files-source");
+    folder.write("t.txt", "const a = 1\n");
+    folder.write("t.names", "const a = 1\n");
+    folder.run("make t.txt -o t.sheet").well();
+    folder.write("p.dot", EXAMPLE);
+    let files = || folder.names().into_iter().map(|name| (folder.read(&name), name)).collect::<Vec<_>>();
+    let before = files();
+    for line in [
+        "make t.txt -o t.txt",
+        "make t.txt -o ./t.txt",
+        "make t.names -o t",
+        "fresh a.sheet -o a.sheet",
+        "fresh t.sheet -o t.sheet.names",
+        "graph p.dot -o p.dot",
+    ] {
+        folder.run(line).failed(2).holds(&["would be lost"]);
+        assert_eq!(files(), before, "{line}");
+    }
+}
+
+/// Results of another sheet are shown and changed as they stand, and a sentence says that they are not this sheet's.
+#[test]
+fn results_of_another_sheet() {
+    let folder = example("files-doubt");
+    folder.write("b.sheet", with(44, 3));
+    let said =
+        ["show b.sheet --results a.results", "explain b.sheet 1 --results a.results", "set b.sheet a.results 0=6"];
+    for line in said {
+        let said = folder.run(line).holds(&["a.results: not worked out from this sheet: the slot of #2 is not"]);
+        assert_eq!(said.status, 0, "{}", said.err);
+    }
+    // The change has worked out all that depends on the setting, so now they are.
+    folder.run("show b.sheet --results a.results").well();
+    folder.run("set b.sheet a.results 0=5").well();
+    // A setting has its own type, and a value.
+    folder.write("c.sheet", with(6, 3));
+    folder.run("show c.sheet --results a.results").holds(&["the slot of #0, of #2 is"]);
+    folder.write("zeros.results", vec![0; 3 * 136]);
+    folder.run("show a.sheet --results zeros.results").holds(&["the slot of #0, of #1, of #2"]);
+}
+
+/// `--set` takes all changes behind it and no other word.
+#[test]
+fn words_behind_the_changes() {
+    let folder = example("files-behind");
+    let shown = folder.run("show a.sheet --set 0=6 0=7").well().out;
+    for line in ["show --set 0=6 0=7 a.sheet", "show --set 0=6 --set 0=7 a.sheet", "show --set=0=6 --set=0=7 a.sheet"] {
+        assert_eq!(folder.run(line).well().out, shown, "{line}");
+    }
+    let told = folder.run("explain a.sheet 2 --set 0=6").well().out;
+    for line in ["explain a.sheet --set 0=6 2", "explain --set 0=6 a.sheet 2"] {
+        assert_eq!(folder.run(line).well().out, told, "{line}");
+    }
+}
+
 #[cfg(unix)]
 #[test]
 fn files_that_are_read_only_and_links() {
     use std::os::unix::fs::{symlink, PermissionsExt};
     let folder = example("files-only");
     let old = folder.read("a.results");
-    // A new file is moved into the place of the old one, with its permissions.
+    // A file that is write-protected stays, though another could be moved over it.
     shut(&folder, "a.results", 0o440);
+    for line in ["set a.sheet a.results 0=32", "fresh a.sheet -o a.results"] {
+        folder.run(line).failed(2).holds(&["a.results", "write-protected"]);
+    }
+    assert_eq!(folder.read("a.results"), old);
+    // Any other is replaced by a new one with its permissions.
+    shut(&folder, "a.results", 0o640);
     folder.run("set a.sheet a.results 0=32").well();
     assert_ne!(folder.read("a.results"), old);
-    assert_eq!(fs::metadata(folder.path("a.results")).unwrap().permissions().mode() & 0o777, 0o440);
+    assert_eq!(fs::metadata(folder.path("a.results")).unwrap().permissions().mode() & 0o777, 0o640);
     // A link stays one, and what it leads to is replaced.
     fs::create_dir(folder.path("far")).unwrap();
     fs::rename(folder.path("a.results"), folder.path("far/b.results")).unwrap();

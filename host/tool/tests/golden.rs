@@ -222,7 +222,7 @@ fn check_change(folder: &Folder, sheet: &str, words: &[&str]) -> (Vec<Json>, [Sa
 
     folder.booth(&["fresh", sheet, "-o", "set.results"]).well();
     let set = folder.booth(&[&["set", sheet, "set.results"], words].concat()).well();
-    assert_eq!(set.out, lines, "{} and {}", set.asked, asked.asked);
+    let more = set.out.strip_prefix(lines).unwrap_or_else(|| panic!("{}: {}", set.asked, set.out));
     let after = folder.booth(&["show", sheet, "--results", "set.results"]).well();
     assert_eq!(after.out.trim_end(), table, "{} and {}", after.asked, asked.asked);
 
@@ -230,6 +230,11 @@ fn check_change(folder: &Folder, sheet: &str, words: &[&str]) -> (Vec<Json>, [Sa
     let set_json = folder.booth(&[&["set", "--json", sheet, "json.results"], words].concat()).well();
     let show_json = folder.booth(&[&["show", "--json", sheet, "--set"], words].concat()).well();
     assert_eq!(set_json.json(), show_json.json()["changes"], "{}", show_json.asked);
+    // `set` shows no table, so it names the entries without a value.
+    let without = set_json.json()["no_value"].as_array().unwrap().len();
+    let refused = show_json.json()["entries"].as_array().unwrap().iter().filter(|entry| entry["status"] != 0).count();
+    assert_eq!((without, more.is_empty()), (refused, refused == 0), "{more}");
+    assert!(more.is_empty() || more.starts_with("no value: "), "{more}");
     assert_eq!(folder.read("json.results"), folder.read("set.results"), "{}", set_json.asked);
 
     let mut bytes = folder.read(sheet);

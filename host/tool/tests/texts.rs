@@ -48,7 +48,8 @@ const FAULTS: &[Fault] = &[
     ("const a 5", 1, "5", "="),
     ("const a", 1, "", "="),
     ("const a = 1 2", 1, "2", "ended"),
-    ("const a = 1;", 1, ";", "';'"),
+    ("const a = 1;", 1, ";", "ends with its line"),
+    ("const a = 1 /* one */", 1, "/*", "//"),
     ("const a = 1 @", 1, "@", "'@'"),
     ("const a = 1 = 2", 1, "=", "ended"),
     ("const a: u32 = 1", 1, ":", "setting"),
@@ -135,7 +136,9 @@ const FAULTS: &[Fault] = &[
     ("const a = bool(1)", 1, "bool", "no conversion"),
     ("const a = 1 + none", 1, "none", "quotes"),
     ("const a = override", 1, "override", "quotes"),
-    ("const a = max(1, 2)", 1, "max", "no entry called max"),
+    ("const a = max(1, 2)", 1, "max", "no functions"),
+    ("const max = 1\nconst a = max(1, 2)", 2, "max", "no functions"),
+    ("const a = vec2<f32>(1.0, 2.0,,)", 1, "vec2<f32>(1.0, 2.0,", "more"),
     // Lines.
     ("\n\n// three\nconst a = ?", 4, "?", "'?'"),
     ("const a = 1\r\nconst b = ?\r\n", 2, "?", "'?'"),
@@ -209,7 +212,7 @@ fn limits_of_a_text() {
         let lines = all.lines().enumerate().map(|(n, line)| line.replace("#_", &format!("#{n}")) + "\n");
         lines.collect::<String>()
     };
-    assert_eq!(make(&sheet("const #_ = ~~~#0")), "t.sheet: 124 entries, 16384 bytes\n");
+    assert_eq!(make(&sheet("const #_ = ~~~#0")), "t.sheet: 124 entries, 16384 bytes\nno value: #123\n");
     check_fault(&folder, &sheet("const #_ = #0\nconst #_ = #0"), 125, "const #124 = #0", "16385 bytes");
 
     let name = |count: usize| "x".repeat(count);
