@@ -110,7 +110,7 @@ enum {
     BOOTH_REFUSED_SETTING_TYPE = 32
 };
 
-/* The name of a number: "ok" for 0, as "ShlOverflow" for 9, "unknown" for a number that is never answered. */
+/* The name of a number: "ok" for 0, for example "ShlOverflow" for 9, "unknown" for a number that is never answered. */
 static inline const char *booth_name(uint8_t number) {
     switch (number) {
     case BOOTH_OK: return "ok";
@@ -143,7 +143,7 @@ static inline const char *booth_name(uint8_t number) {
 }
 
 /* An operand is bytes: type, columns, rows, and 8 bytes for each component of its shape, low byte first.
- * The slot must have BOOTH_SLOT bytes; it is written only where the number is 0.
+ * The slot must have exactly BOOTH_SLOT bytes; it is written only where the number is 0.
  * Judged in this order: operator (25), stage (23), operands, left first (26), size of the slot (30), then what the operator itself refuses. */
 uint64_t wgsl_unary(uint8_t op, uint8_t stage,
                     const uint8_t *operand, size_t operand_len,
@@ -153,20 +153,21 @@ uint64_t wgsl_binary(uint8_t op, uint8_t stage,
                      const uint8_t *right, size_t right_len,
                      uint8_t *slot, size_t slot_len);
 
-/* Checks a sheet. Detail: its entries, or the place of the fault. */
+/* Checks a sheet. Detail: the number of its entries, or the place of the fault. */
 uint64_t sheet_check(const uint8_t *sheet, size_t sheet_len);
 
-/* Works out all entries. The results must have BOOTH_SLOT bytes for each. Detail: the entries. */
+/* Works out all entries. The results must have exactly BOOTH_SLOT bytes for each. Detail: the number of entries. */
 uint64_t sheet_fresh(const uint8_t *sheet, size_t sheet_len,
                      uint8_t *results, size_t results_len);
 
-/* Gives a setting new content and works out what depends on it. Detail: the number of dependents, the setting itself left out.
+/* Gives a setting new content and works out what depends on it, and writes no byte of any other slot. Detail: the number of dependents,
+ * the setting itself left out. The results must have exactly BOOTH_SLOT bytes for each entry.
  * Judged in this order: the sheet (20 to 29), the results' size (30), the entry (31), the content (26), its type (32). */
 uint64_t sheet_change(const uint8_t *sheet, size_t sheet_len,
                       uint8_t *results, size_t results_len,
                       uint64_t entry, uint8_t type, uint64_t bits);
 
-/* As sheet_change, and tells which entries were worked. The marks must have BOOTH_ENTRIES bytes, whatever the sheet has; else 30, judged
+/* As sheet_change, and tells which entries were worked. The marks must have exactly BOOTH_ENTRIES bytes, whatever the sheet has; else 30, judged
  * right after the sheet. After success byte k is 1 if entry k is the setting or depends on it, and else 0. */
 uint64_t sheet_change_marks(const uint8_t *sheet, size_t sheet_len,
                             uint8_t *results, size_t results_len,
