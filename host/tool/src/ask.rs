@@ -37,8 +37,11 @@ impl Asked {
             Some(path) => path,
             None => return Results::fresh(self.sheet.clone()).map_err(|refusal| refused(named(refusal))),
         };
-        let bytes = files::read(path, Sheet::MOST_ENTRIES * SLOT)?;
-        let (found, count) = (bytes.len(), self.sheet.entries().len());
+        const MOST: usize = Sheet::MOST_ENTRIES * SLOT;
+        let bytes = files::read(path, MOST)?;
+        let count = self.sheet.entries().len();
+        // Of a file that is too long no more was read than that.
+        let found = if bytes.len() > MOST { "more".to_owned() } else { bytes.len().to_string() };
         let sizes = format!("{} take {} bytes, and it has {found}", entries(count as u64), count * SLOT);
         Results::of(self.sheet.clone(), bytes)
             .map_err(|refusal| refused(format!("{}: {}; {sizes}", path.display(), named(refusal))))

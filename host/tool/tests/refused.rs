@@ -164,7 +164,8 @@ fn endless_files_are_read_to_their_limit() {
     }
     let folder = example("refused-endless");
     folder.run("check /dev/zero").failed(1).holds(&["SheetTooLong (20)"]);
-    folder.run("show a.sheet --results /dev/zero").failed(1).holds(&["ResultsSize (30)"]);
+    let more = "3 entries take 408 bytes, and it has more";
+    folder.run("show a.sheet --results /dev/zero").failed(1).holds(&["ResultsSize (30)", more]);
     folder.run("make /dev/zero -o b.sheet").failed(1).holds(&["/dev/zero"]);
     assert_eq!(folder.names(), FILES);
 }
