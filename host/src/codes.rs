@@ -85,12 +85,6 @@ impl Type {
     }
 }
 
-impl fmt::Display for Type {
-    fn fmt(&self, f: &mut fmt::Formatter) -> fmt::Result {
-        f.write_str(self.name())
-    }
-}
-
 /// When an expression is worked out.
 #[derive(Clone, Copy, Debug, PartialEq, Eq, PartialOrd, Ord, Hash)]
 #[repr(u8)]
@@ -113,12 +107,6 @@ impl Stage {
             Stage::Override => "override",
             Stage::Exec => "exec",
         }
-    }
-}
-
-impl fmt::Display for Stage {
-    fn fmt(&self, f: &mut fmt::Formatter) -> fmt::Result {
-        f.write_str(self.name())
     }
 }
 
@@ -147,12 +135,6 @@ impl Unary {
             Unary::Neg => "-",
             Unary::BitNot => "~",
         }
-    }
-}
-
-impl fmt::Display for Unary {
-    fn fmt(&self, f: &mut fmt::Formatter) -> fmt::Result {
-        f.write_str(self.symbol())
     }
 }
 
@@ -236,8 +218,14 @@ impl Binary {
     }
 }
 
-impl fmt::Display for Binary {
-    fn fmt(&self, f: &mut fmt::Formatter) -> fmt::Result {
-        f.write_str(self.symbol())
-    }
+macro_rules! printed {
+    ($($what:ident by $word:ident)*) => {
+        $(impl fmt::Display for $what {
+            fn fmt(&self, f: &mut fmt::Formatter) -> fmt::Result {
+                f.write_str(self.$word())
+            }
+        })*
+    };
 }
+
+printed!(Type by name Stage by name Unary by symbol Binary by symbol);

@@ -125,6 +125,17 @@ impl Results {
         change(self.sheet.bytes(), &mut self.slots, entry.into(), ty as u8, bits)
     }
 
+    /// Whether an entry's slot is what the entry gives over the other slots: a setting some scalar of its type, an expression what it comes
+    /// to. So it is for every entry of results that were worked out from this sheet, whatever was changed since.
+    pub fn fits(&self, entry: u32) -> Option<bool> {
+        let (said, step) = (self.sheet.entries().get(entry as usize)?, self.explain(entry)?);
+        Some(match (said.kind, &said.expr, step.came_to) {
+            (Kind::Setting, Expr::Literal(body), Slot::Value(value)) => value.is_scalar() && value.ty() == body.ty(),
+            (Kind::Setting, ..) => false,
+            (Kind::Expression(_), _, gives) => self.slot(entry) == Some(gives),
+        })
+    }
+
     /// The expression of an entry, node by node, with what each node came to over the slots as they stand. Of a setting it is one node,
     /// with what its slot holds.
     pub fn explain(&self, entry: u32) -> Option<Step<'_>> {

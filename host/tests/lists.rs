@@ -43,6 +43,7 @@ fn explanations_end_in_the_slot() {
         for number in 0..sheet.entries().len() as u32 {
             let step = results.explain(number).unwrap();
             assert_eq!(Some(step.came_to), results.slot(number), "#{number} of {:02x?}", sheet.bytes());
+            assert_eq!(results.fits(number), Some(true), "#{number} of {:02x?}", sheet.bytes());
             assert!(stands_there(sheet.bytes(), &step));
             match step.came_to {
                 Slot::Value(_) => {
@@ -163,6 +164,7 @@ fn explanations_after_a_change() {
         let results = Results::of(sheet, change.after.to_vec()).unwrap();
         for number in (0..).zip(marks).filter(|(_, mark)| *mark == 1).map(|(number, _)| number) {
             assert_eq!(results.explain(number).map(|step| step.came_to), results.slot(number), "#{number}");
+            assert_eq!(results.fits(number), Some(true), "#{number}");
             assert_ne!(results.slot(number), Some(Slot::Malformed), "#{number}");
         }
     });

@@ -1,7 +1,7 @@
 //! What every command asks first: the sheet, its names and its results.
 use std::path::Path;
 
-use booth::{Expr, Kind, Refusal, Results, Sheet, Slot, SLOT};
+use booth::{Kind, Refusal, Results, Sheet, SLOT};
 
 use crate::{
     check,
@@ -52,7 +52,7 @@ impl Asked {
     pub fn doubt(&self, path: &Path, results: &Results) -> Option<String> {
         let all = 0..self.sheet.entries().len() as u32;
         let strange: Vec<String> =
-            all.filter(|entry| is_strange(results, *entry)).map(|entry| self.names.write(entry)).collect();
+            all.filter(|entry| results.fits(*entry) == Some(false)).map(|entry| self.names.write(entry)).collect();
         let words = format!(
             "{}: not worked out from this sheet: the slot of {} is not what its entry gives over the other slots. \
              `booth fresh` makes results anew",
@@ -111,22 +111,6 @@ impl Asked {
 pub fn without_value(results: &Results) -> Vec<u32> {
     let has_none = |entry: &u32| results.slot(*entry).map_or(true, |slot| slot.value().is_none());
     (0..results.sheet().entries().len() as u32).filter(has_none).collect()
-}
-
-/// Whether a slot holds what no fresh evaluation and no change would leave there beside the others.
-fn is_strange(results: &Results, entry: u32) -> bool {
-    let step = match results.explain(entry) {
-        Some(step) => step,
-        None => return false,
-    };
-    match (results.sheet().entries()[entry as usize].kind, step.came_to) {
-        (Kind::Setting, Slot::Value(value)) => match step.expr {
-            Expr::Literal(body) => !value.is_scalar() || value.ty() != body.ty(),
-            _ => true,
-        },
-        (Kind::Setting, _) => true,
-        (_, gives) => results.slot(entry) != Some(gives),
-    }
 }
 
 /// `1 entry`, `3 entries`.

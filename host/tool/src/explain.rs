@@ -41,8 +41,8 @@ fn one(asked: &Asked, results: &Results, entry: u32) -> String {
         said.kind,
         sentence::of_entry(results, entry, &asked.names)
     );
-    if results.slot(entry) != Some(step.came_to) {
-        text += "  this slot is not what its expression gives over the other slots\n";
+    if results.fits(entry) == Some(false) {
+        text += "  this slot is not what its entry gives over the other slots\n";
     }
     match said.kind {
         // A setting has no node but its content, which may have been changed.
@@ -54,7 +54,7 @@ fn one(asked: &Asked, results: &Results, entry: u32) -> String {
 
 /// One node a line, its operands below it.
 fn branch(asked: &Asked, results: &Results, step: &Step, lead: &str, below: &str, text: &mut String) {
-    let expr = step.expr.with_names(&|named| asked.names.write(named.into())).to_string();
+    let expr = asked.names.expr(step.expr);
     let came_to = match step.came_to {
         Slot::Value(value) if value.to_string() == expr => String::new(),
         Slot::Value(value) => format!(" = {value}"),
@@ -79,7 +79,7 @@ fn whence(asked: &Asked, results: &Results, step: &Step) -> String {
         Expr::Binary(op, ..) => format!("   [operator {op} at byte {}]", step.place),
         Expr::Entry(number) => match results.sheet().entries().get(usize::from(*number)) {
             Some(entry) => {
-                let expr = entry.expr.with_names(&|named| asked.names.write(named.into())).to_string();
+                let expr = asked.names.expr(&entry.expr);
                 format!("   [entry {number}, {}: {expr}]", entry.kind)
             }
             None => String::new(),
@@ -97,7 +97,7 @@ pub fn json(asked: &Asked, results: &Results, entry: u32) -> Json {
 
 fn tree(asked: &Asked, step: &Step) -> Json {
     let mut all = json!({
-        "expression": step.expr.with_names(&|named| asked.names.write(named.into())).to_string(),
+        "expression": asked.names.expr(step.expr),
         "place": step.place,
         "operands": step.operands.iter().map(|operand| tree(asked, operand)).collect::<Vec<Json>>(),
     });

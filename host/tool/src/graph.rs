@@ -54,7 +54,7 @@ pub fn dot(asked: &Asked, results: &Results, setting: Option<u32>) -> Result<Str
 /// What is written into an entry's box: what it is called, what it says, what it came to.
 fn lines(asked: &Asked, results: &Results, number: u32, entry: &Entry) -> [String; 3] {
     let name = asked.names.get(number).map_or_else(String::new, |name| format!(" {name}"));
-    let expr = entry.expr.with_names(&|named| asked.names.write(named.into())).to_string();
+    let expr = asked.names.expr(&entry.expr);
     let value = sentence::of_entry(results, number, &asked.names);
     [format!("#{number}{name}"), format!("{}: {}", entry.kind, cut(&expr)), cut(&value)]
 }

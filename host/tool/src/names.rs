@@ -4,7 +4,7 @@ use std::{
     path::{Path, PathBuf},
 };
 
-use booth::Sheet;
+use booth::{Expr, Sheet};
 
 use crate::{ask, complaint::Complaint, files, text};
 
@@ -67,6 +67,11 @@ impl Names {
     /// What an entry is called: its name, in quotes where it is not one word, or `#0`.
     pub fn write(&self, entry: u32) -> String {
         self.get(entry).map_or_else(|| format!("#{entry}"), text::written)
+    }
+
+    /// An expression with the entries called so.
+    pub fn expr(&self, expr: &Expr) -> String {
+        expr.with_names(&|entry| self.write(entry.into())).to_string()
     }
 
     /// The entry that a word means: a name, a number, or a number after `#`.

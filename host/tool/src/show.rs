@@ -46,7 +46,7 @@ fn row(asked: &Asked, results: &Results, entry: u32) -> [String; 6] {
         asked.names.get(entry).unwrap_or("").to_owned(),
         said.kind.to_string(),
         ty,
-        said.expr.with_names(&|named| asked.names.write(named.into())).to_string(),
+        asked.names.expr(&said.expr),
         sentence::of_entry(results, entry, &asked.names),
     ]
 }

@@ -8,7 +8,7 @@ pub fn of(sheet: &Sheet, names: &Names) -> String {
     let mut text = String::new();
     for (number, entry) in (0..).zip(sheet.entries()) {
         let name = names.write(number);
-        let expr = entry.expr.with_names(&|named| names.write(named.into())).to_string();
+        let expr = names.expr(&entry.expr);
         text += &match (entry.kind, &entry.expr) {
             (Kind::Setting, booth::Expr::Literal(content)) => {
                 format!("setting {name}: {} = {}\n", content.ty(), content.bare())
