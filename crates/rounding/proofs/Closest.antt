@@ -1,14 +1,61 @@
 -- `closest n d`, n / d to a whole number: none is nearer, and of two as near it is the even one. Assumes nothing.
 use Prim.Native.Nat.{ℕ, suc, _+_, _-_, _*_, _/_, _%_, _≤_, _<_, compare, Ordering, Ordering·lt, Ordering·eq, Ordering·gt}
-use mathlib.Core.Path.{_≡_, refl, sym, ap, _∙_}
+use mathlib.Core.Path.{_≡_, refl, sym, ap, _∙_, subst}
+use mathlib.Core.Bool.{not}
 use mathlib.Core.Logic.{_⊎_, inl, inr}
-use native.Mathlib.Nat.{eq-or-lt-of-le, eq-zero-or-pos, mod-lt, div-eq-of-lt, div-eq-of-lt-le, mul-le-mul-right, suc-mul, div-add-mod', add-suc, mul-add-div-right, mul-add-mod-self-right}
+use native.Mathlib.Nat.{eq-or-lt-of-le, eq-zero-or-pos, mod-lt, mod-eq-of-lt, div-eq-of-lt, div-eq-of-lt-le, mul-le-mul-right, suc-mul, div-add-mod', add-suc, mul-add-div-right, mul-add-mod-self-right}
 use native.Mathlib.Omega.{arith}
+use lib.Arith.{lt-of-le-ne}
+use lib.Dec.{T, eqb, isLe, isEq, leb→le, nleb→lt, eqb→eq, eqb-refl}
 use lib.Ieee.{nearest}
 use lib.Ieee.Nearest.{closest}
 use Rattle.integer.proofs.Order.{le-or-lt}
 use Rattle.rounding.specs.Nearest.{distance}
-use Rattle.rounding.proofs.Cut.{rounds-down, rounds-even, rounds-up}
+
+-- ---- what `nearest` takes from a comparison
+abbrev Says : Ordering → ℕ → ℕ → Type 0
+Says Ordering·lt a b = a < b
+Says Ordering·eq a b = a ≡ b
+Says Ordering·gt a b = b < a
+
+says : (a b : ℕ) → Says (compare a b) a b
+says a b = go (compare a b) (leb→le a b) (nleb→lt a b) (eqb→eq a b) (λ (e : a ≡ b). subst (λ (x : ℕ). T (eqb a x)) e (eqb-refl a))
+  where
+    go : (o : Ordering) → (T (isLe o) → a ≤ b) → (T (not (isLe o)) → b < a) → (T (isEq o) → a ≡ b) → (a ≡ b → T (isEq o)) → Says o a b
+    go Ordering·lt h k e n = lt-of-le-ne (h tt) n
+    go Ordering·eq h k e n = e tt
+    go Ordering·gt h k e n = k tt
+
+rounds-down : (q a b : ℕ) → a < b → nearest q (compare a b) ≡ q
+rounds-down q a b l = go (compare a b) (says a b)
+  where
+    go : (o : Ordering) → Says o a b → nearest q o ≡ q
+    go Ordering·lt h = refl
+    go Ordering·eq h = absurd (omega arith)
+    go Ordering·gt h = absurd (omega arith)
+
+rounds-even : (q a b : ℕ) → a ≡ b → nearest q (compare a b) ≡ q + q % 2
+rounds-even q a b l = go (compare a b) (says a b)
+  where
+    go : (o : Ordering) → Says o a b → nearest q o ≡ q + q % 2
+    go Ordering·lt h = absurd (omega arith)
+    go Ordering·eq h = refl
+    go Ordering·gt h = absurd (omega arith)
+
+rounds-up : (q a b : ℕ) → b < a → nearest q (compare a b) ≡ suc q
+rounds-up q a b l = go (compare a b) (says a b)
+  where
+    go : (o : Ordering) → Says o a b → nearest q o ≡ suc q
+    go Ordering·lt h = absurd (omega arith)
+    go Ordering·eq h = absurd (omega arith)
+    go Ordering·gt h = refl
+
+-- ---- and so `closest`
+-- less than half of d is nothing
+pub closest-little : (n d : ℕ) → n * 2 < d → closest n d ≡ 0
+closest-little n d h =
+    let l : n < d = omega arith in
+    rounds-down (n / d) (n % d * 2) d (omega (arith, mod-eq-of-lt l)) ∙ div-eq-of-lt l
 
 -- of n = f * d + r: q is f or the next number, by where r lies, and even where r is half of d
 abbrev pub Side : ℕ → ℕ → ℕ → ℕ → Type 0

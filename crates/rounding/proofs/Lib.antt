@@ -8,7 +8,6 @@ pub mod Fields
 pub mod Digits
 pub mod Units
 pub mod Finite
-pub mod Cut
 pub mod Closest
 pub mod Pack
 pub mod Nearest
@@ -26,7 +25,9 @@ pub mod Back
 pub mod Reread
 pub mod Normal
 pub mod FromBits
+pub mod Weights
 pub mod Leading
+pub mod Narrowed
 pub mod Integer
 pub mod Range
 pub mod Wider

@@ -8,8 +8,10 @@ use lib.Ieee.{Float, Format, binary32, binary64, nan, inf, fin, isNan, nanBits, 
 use lib.Ieee.Bits.{ofBits-toBits, nanBits-is, nanBits-above}
 use lib.Ieee.Compare.{differs-from-itself, nan-differs}
 use borrow.Author.Tests.{lt-ltb, le-ltb}
+use Rattle.rounding.specs.Kind.{Kind, convert}
 use Rattle.rounding.specs.Bits.{toBits, ofBits, signed, full, hidden}
 use Rattle.rounding.proofs.Same.{of, ofBits-is}
+use Rattle.rounding.proofs.Back.{bits-back}
 
 -- ---- by the test `x != x`
 pub same-is : (x : Float) → ne x x ≡ false → T (not (isNan x))
@@ -21,7 +23,19 @@ same-is (fin s m e) h = tt
 pub kept-nan : (f : Format) (x : Float) → ne x x ≡ true → toBits (of f) nan ≡ toBits (of f) x
 kept-nan f x h = ap (toBits (of f)) (sym (differs-from-itself x (subst T (sym h) tt)))
 
+-- what a NaN is rounded to
+nan-converted : (k : Kind) → convert k nan ≡ nan
+unfolding convert
+nan-converted k = refl
+
+pub nan-narrowed : (k : Kind) (x : Float) → ne x x ≡ true → convert k x ≡ nan
+nan-narrowed k x h = ap (convert k) (differs-from-itself x (subst T (sym h) tt)) ∙ nan-converted k
+
 -- ---- by the bits
+-- from the bits b of an F32 or F64 that equals itself
+pub real : (f : Format) (x : Float) {b : ℕ} → T (fits f x) → ne x x ≡ false → b ≡ toBits (of f) x → ofBits (of f) b ≡ nan → ⊥
+real f x t h e n = false≢true (sym h ∙ ap (λ (y : Float). ne y y) (sym (bits-back f x t) ∙ ap (ofBits (of f)) (sym e) ∙ n) ∙ nan-differs)
+
 pub no-nan-bits : (f : Format) (x : Float) → T (fits f x) → T (not (isNan x)) → T (not (nanBits f (Ieee.toBits f x)))
 no-nan-bits f x t n = subst (λ (b : Bool). T (not b)) (sym (nanBits-is f (Ieee.toBits f x) ∙ ap isNan (ofBits-toBits f x t))) n
 

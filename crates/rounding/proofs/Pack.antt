@@ -4,7 +4,7 @@ use mathlib.Core.Path.{_≡_, refl, sym, ap, _∙_, subst}
 use mathlib.Core.Bool.{Bool, cond}
 use mathlib.Core.Logic.{_⊎_, inl, inr}
 use native.Mathlib.Nat.{le-suc, le-trans, le-of-eq, lt-of-lt-of-le, eq-zero-or-pos, div-div-eq-div-mul, le-div-iff-mul-le, div-lt-iff-lt-mul}
-use native.Mathlib.Nat.{mul-one, mul-comm, mul-assoc, mul-right-comm, mul-pos, mul-le-mul-right, mul-lt-mul-of-pos-right}
+use native.Mathlib.Nat.{zero-add, zero-mul, mul-one, mul-comm, mul-assoc, mul-right-comm, mul-pos, mul-le-mul-right, mul-lt-mul-of-pos-right}
 use native.Mathlib.Omega.{arith}
 use lib.Pow.{pow-add, pow-pos}
 use lib.Ieee.{Float, fin, up, down, size, odd}
@@ -42,6 +42,12 @@ pack-as p n den m d j P D same kept =
     let e : n * 2 ^ d ≡ m * (den * 2 ^ j) = same ∙ mul-assoc m (2 ^ j) den ∙ ap (λ (x : ℕ). m * x) (mul-comm (2 ^ j) den) in
     ap (λ (x : ℕ). x * 2 ^ (p - 1) + closest n (den * 2 ^ x)) z
     ∙ ap (λ (x : ℕ). j * 2 ^ (p - 1) + x) (closest-same n (den * 2 ^ j) m (2 ^ d) (mul-pos D (pow-pos j)) (pow-pos d) e)
+
+-- with no digit dropped
+pub pack-low : (p n den m d : ℕ) → 0 < p → 0 < den → n * 2 ^ d ≡ m * den → m / 2 ^ d < 2 ^ p → pack p n den ≡ closest m (2 ^ d)
+pack-low p n den m d P D same few =
+    pack-as p n den m d 0 P D (same ∙ ap (λ (x : ℕ). x * den) (sym (mul-one m))) (few, inl refl)
+    ∙ ap (λ (x : ℕ). x + closest m (2 ^ d)) (zero-mul (2 ^ (p - 1))) ∙ zero-add (closest m (2 ^ d))
 
 -- equal fractions pack alike, and round alike
 same-drop : (p a b c d : ℕ) → 0 < b → 0 < d → a * d ≡ c * b → size (a / b) - p ≡ size (c / d) - p

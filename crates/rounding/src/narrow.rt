@@ -2,133 +2,133 @@
 use crate::patterns;
 use crate::places;
 ghost use mathlib.Core.Path.{_≡_};
-ghost use Prim.Native.Nat.{_+_, _*_, _%_, _^_, _<_, _≤_, min};
-ghost use mathlib.Core.Bool.{cond};
+ghost use Prim.Native.Nat.{_+_, _-_, _*_, _^_, _<_, _≤_};
 ghost use lib.Ieee as Ieee;
-ghost use Rattle.rounding.specs.Kind.{kind, half, single, double, roundTo, convert, ofInteger};
+ghost use Rattle.rounding.specs.Kind.{kind, half, single, double, least, roundTo, convert, ofInteger};
 ghost use Rattle.rounding.specs.Bits.{full, hidden, signed, toBits, ofBits};
 ghost use Rattle.rounding.specs.Pack.{pack};
 
-// The bits of m * 2^a / 2^c smallest values of a kind of that many digits, without the sign.
-fn packed(m: u64, a: u64, c: u64, digits: u64) -> u64
-    requires { ⌜ (a < 4096) × (c < 4096) × (2 ≤ digits) × (digits ≤ 24) ⌝ }
-    ensures { λ r. ⌜ r ≡ pack digits (m * 2 ^ a) (2 ^ c) ⌝ }
+// The weight of the exponent's field in a kind of that many digits.
+fn weight(digits: u64) -> u64
+    requires { ⌜ (1 ≤ digits) × (digits ≤ 64) ⌝ }
+    ensures { λ r. ⌜ r ≡ 2 ^ (digits - 1) ⌝ }
 {
-    if m == 0 {
-        return 0;
-    }
-    let zeros = u64::leading_zeros(m) as u64;
-    let top = m << zeros;
-    let low = c + zeros;
-    let weight = 1u64 << (digits - 1);
-    if low + digits <= 64 + a {
-        let dropped = 64 + a - low - digits;
-        let q = places::round_whole(top, 64 - digits);
-        dropped * weight + q
-    } else {
-        places::round_whole(top, low - a)
-    }
+    1 << (digits - 1)
 }
 
-// The sign's bit and a magnitude, which stops at the infinity's.
-fn signed_bits(neg: bool, p: u64, digits: u64, reach: u64) -> u64
-    requires { ⌜ (2 ≤ digits) × (digits ≤ 24) × (1 ≤ reach) × (reach ≤ 127) ⌝ }
-    ensures { λ r. ⌜ r ≡ cond neg (signed (kind digits reach)) 0 + min p (full (kind digits reach) * hidden (kind digits reach)) ⌝ }
+// The weight of the sign.
+fn sign_weight(digits: u64, reach: u64) -> u64
+    requires { ⌜ (1 ≤ digits) × (digits ≤ 53) × (reach ≤ 1023) ⌝ }
+    ensures { λ r. ⌜ r ≡ signed (kind digits reach) ⌝ }
 {
-    let weight = 1u64 << (digits - 1);
-    let most = weight * (2 * reach + 1);
-    let q = if p < most { p } else { most };
-    if neg { weight * (2 * reach + 2) + q } else { q }
+    weight(digits) * (2 * reach + 2)
+}
+
+// The infinity's bits, without the sign.
+fn infinity(digits: u64, reach: u64) -> u64
+    requires { ⌜ (1 ≤ digits) × (digits ≤ 53) × (reach ≤ 1023) ⌝ }
+    ensures { λ r. ⌜ r ≡ full (kind digits reach) * hidden (kind digits reach) ⌝ }
+{
+    weight(digits) * (2 * reach + 1)
 }
 
 // The one NaN's pattern that is kept.
 fn nan_bits(digits: u64, reach: u64) -> u64
-    requires { ⌜ (2 ≤ digits) × (digits ≤ 24) × (1 ≤ reach) × (reach ≤ 127) ⌝ }
+    requires { ⌜ (1 ≤ digits) × (digits ≤ 53) × (reach ≤ 1023) ⌝ }
     ensures { λ r. ⌜ r ≡ toBits (kind digits reach) Ieee.nan ⌝ }
 {
-    let weight = 1u64 << (digits - 1);
-    weight * (2 * reach + 1) + weight / 2
+    infinity(digits, reach) + weight(digits) / 2
 }
 
-// The bits of the F64 with the bits b, rounded once to a kind.
-fn narrow_bits(b: u64, digits: u64, reach: u64) -> u64
-    requires { ⌜ (2 ≤ digits) × (digits ≤ 24) × (1 ≤ reach) × (reach ≤ 127) ⌝ }
-    ensures { λ r. ⌜ r ≡ toBits (kind digits reach) (convert (kind digits reach) (ofBits double b)) ⌝ }
+// The bits of the number that has the bits b in a wider kind, rounded once to a kind. The wider one has `cut` digits more, and its
+// fields count from `off` further on. Where both have a leading digit, a number's bits are the wider kind's less that difference of
+// the fields, rounded by that of the digits; past the largest value they are the infinity's. Below, the digits move on by a place
+// for each field that is missing, until none is left.
+fn narrow_bits(b: u64, digits: u64, reach: u64, cut: u64, off: u64) -> u64
+    requires { ⌜ (2 ≤ digits) × (1 ≤ cut) × (digits + cut ≤ 53) × (1 ≤ reach) × (digits ≤ off) × (reach + off ≤ 1023)
+        × (b < 2 * signed (kind (digits + cut) (reach + off))) × (ofBits (kind (digits + cut) (reach + off)) b ≡ Ieee.nan → ⊥) ⌝ }
+    ensures { λ r. ⌜ r ≡ toBits (kind digits reach) (convert (kind digits reach) (ofBits (kind (digits + cut) (reach + off)) b)) ⌝ }
 {
-    let neg = b >= 0x8000_0000_0000_0000;
-    let field = b % 0x8000_0000_0000_0000 / 0x10_0000_0000_0000;
-    let t = b % 0x10_0000_0000_0000;
-    let c = 1076 - reach - digits;
-    if field == 2047 {
-        if t == 0 {
-            return signed_bits(neg, 0xffff_ffff, digits, reach);
-        }
-        return nan_bits(digits, reach);
+    let above = sign_weight(digits + cut, reach + off);
+    let lead = weight(digits + cut);
+    let negative = b / above;
+    let size = b - negative * above;
+    let field = size / lead;
+    let sign = negative * sign_weight(digits, reach);
+    if off < field {
+        let q = places::round_whole(size - off * lead, cut);
+        let kept = if field <= off + 2 * reach {
+            q
+        } else {
+            infinity(digits, reach)
+        };
+        return sign + kept;
     }
-    if field == 0 {
-        return signed_bits(neg, packed(t, 0, c, digits), digits, reach);
+    let places = cut + off + 1 - field;
+    if digits + cut < places {
+        return sign;
     }
-    signed_bits(
-        neg,
-        packed(0x10_0000_0000_0000 + t, field - 1, c, digits),
-        digits,
-        reach,
-    )
-}
-
-// The bits of a whole number n, negative where neg, rounded once to a kind.
-fn whole_bits(neg: bool, n: u64, digits: u64, reach: u64) -> u64
-    requires { ⌜ (2 ≤ digits) × (digits ≤ 24) × (1 ≤ reach) × (reach ≤ 127) ⌝ }
-    ensures { λ r. ⌜ r ≡ toBits (kind digits reach) (roundTo (kind digits reach) neg n 1) ⌝ }
-{
-    signed_bits(neg, packed(n, reach + digits - 2, 0, digits), digits, reach)
-}
-
-// The bits of x rounded once to F16: what F64 and F32 share.
-fn half_bits(x: f64) -> u16
-    ensures { λ r. ⌜ r ≡ toBits half (convert half x) ⌝ }
-{
-    narrow_bits(patterns::f64_bits(x), 11, 15) as u16
+    sign + places::round_whole(lead + size % lead, places)
 }
 
 // The bits of x rounded once to F16.
 pub fn f64_to_half(x: f64) -> u16
     ensures { λ r. ⌜ r ≡ toBits half (convert half x) ⌝ }
 {
-    half_bits(x)
+    if x != x {
+        return nan_bits(11, 15) as u16;
+    }
+    narrow_bits(patterns::f64_bits(x), 11, 15, 42, 1008) as u16
+}
+
+// The bits of x rounded once to F16.
+pub fn f32_to_half(x: f32) -> u16
+    ensures { λ r. ⌜ r ≡ toBits half (convert half x) ⌝ }
+{
+    if x != x {
+        return nan_bits(11, 15) as u16;
+    }
+    narrow_bits(patterns::f32_bits(x) as u64, 11, 15, 13, 112) as u16
 }
 
 // x rounded once to F32.
 pub fn f64_to_f32(x: f64) -> f32
     ensures { λ r. ⌜ r ≡ convert single x ⌝ }
 {
-    patterns::f32_of_bits(narrow_bits(patterns::f64_bits(x), 24, 127) as u32)
-}
-
-// The bits of the F32 with the bits b, which is from 2^-14 to below 2^16, rounded once to F16. There
-// both have a leading digit: an F16's bits are the F32's less the difference of the fields, 112,
-// rounded by the difference of the digits, 13. Past the largest F16 they are the infinity's. Half a
-// step less one, and one more where the number kept is odd, carry over exactly where it goes up.
-fn leading_bits(b: u32) -> u16
-    requires { ⌜ (0x3880_0000 ≤ b % 0x8000_0000) × (b % 0x8000_0000 < 0x4780_0000) ⌝ }
-    ensures { λ r. ⌜ r ≡ toBits half (convert half (ofBits single b)) ⌝ }
-{
-    let m = b % 0x8000_0000 - 0x3800_0000;
-    let q = (m + 0xfff + m / 0x2000 % 2) / 0x2000;
-    (b / 0x8000_0000 * 0x8000 + q) as u16
-}
-
-// The bits of x rounded once to F16: the common values by their bits, the others as an F64, which
-// every F32 is.
-pub fn f32_to_half(x: f32) -> u16
-    ensures { λ r. ⌜ r ≡ toBits half (convert half x) ⌝ }
-{
-    let b = patterns::f32_bits(x);
-    let size = b % 0x8000_0000;
-    if (0x3880_0000 <= size) & (size < 0x4780_0000) {
-        return leading_bits(b);
+    if x != x {
+        return 0.0 / 0.0;
     }
-    half_bits(std::num::f32_to_f64_with_nan(x))
+    patterns::f32_of_bits(narrow_bits(patterns::f64_bits(x), 24, 127, 29, 896) as u32)
+}
+
+// The bits of a whole number n rounded to a kind, without the sign; past the largest value they go on past the infinity's. Moved up
+// until its highest bit is bit 62, the digits to keep are its highest ones.
+fn whole_size(n: u64, digits: u64, reach: u64) -> u64
+    requires { ⌜ (n ≤ 2 ^ 63) × (2 ≤ digits) × (digits ≤ 24) × (1 ≤ reach) × (reach ≤ 127) ⌝ }
+    ensures { λ r. ⌜ r ≡ pack digits (n * 2 ^ least (kind digits reach)) 1 ⌝ }
+{
+    if n == 0 {
+        return 0;
+    }
+    let zeros = u64::leading_zeros(n) as u64;
+    let top = (n << zeros) / 2;
+    let q = places::round_whole(top, 63 - digits);
+    (62 + reach - zeros) * weight(digits) + q
+}
+
+// The bits of a whole number n, negative where neg, rounded once to a kind.
+fn whole_bits(neg: bool, n: u64, digits: u64, reach: u64) -> u64
+    requires { ⌜ (n ≤ 2 ^ 63) × (2 ≤ digits) × (digits ≤ 24) × (1 ≤ reach) × (reach ≤ 127) ⌝ }
+    ensures { λ r. ⌜ r ≡ toBits (kind digits reach) (roundTo (kind digits reach) neg n 1) ⌝ }
+{
+    let p = whole_size(n, digits, reach);
+    let most = infinity(digits, reach);
+    let q = if p < most { p } else { most };
+    if neg {
+        sign_weight(digits, reach) + q
+    } else {
+        q
+    }
 }
 
 // The bits of n rounded once to F16.

@@ -1,58 +1,88 @@
--- An F64's bits rounded to a kind, by their fields. Assumes nothing.
-use Prim.Native.Nat.{ℕ, _+_, _-_, _*_, _^_, _≤_, min}
-use mathlib.Core.Path.{_≡_, sym, ap, _∙_}
-use mathlib.Core.Bool.{cond}
+-- The bits of a number in a wider kind, rounded to a kind, by where its field lies. Assumes nothing.
+use mathlib.Core.Path.{_∙_}
+use mathlib.Core.Logic.{⊎-elim}
 use native.Mathlib.Omega.{arith}
-use lib.Dec.{leb}
-use Rattle.rounding.specs.Kind.{kind, double, least}
-use Rattle.rounding.specs.Bits.{signed, full, hidden}
-use Rattle.rounding.proofs.Units.{Sized}
-use Rattle.rounding.proofs.FromBits.{bits-low, bits-mid, bits-inf, bits-nan, most-small}
 use borrow.Author.Needs.{needs}
+use Rattle.rounding.proofs.Narrowed.{Wide, lead-pos, sign-off, size-small, fields-off, digits-small, answer-fits, sign-fits, leading, past, below, none}
 use Rattle.rounding.proofs.narrow.narrow_bits.Statement.{statement}
 use Rattle.rounding.proofs.narrow.narrow_bits.Tie as tie
 
-sized : (c : tie.Start) → Sized (kind (c .args .digits) (c .args .reach))
-sized c = record { two = c .pre .0; one = c .pre .2 }
+wide : (c : tie.After-weight)
+    → let g = c .before .before .args in Wide (g .digits) (g .reach) (g .cut) (g .off) (c .before .sign-weight .result) (c .weight .result)
+wide c =
+    let s = c .before .before in
+    record { two = s .pre .0; one = s .pre .3; digits = s .pre .2; reach = s .pre .5; sign-at = c .before .sign-weight .ensures; field-at = c .weight .ensures }
 
-place : (c : tie.Start) → least (kind (c .args .digits) (c .args .reach)) + (1076 - c .args .reach - c .args .digits) ≡ 1074
-place c = omega arith
+mul-size : tie.Need-mul-size
+mul-size c = let s = c .before .before in omega (arith, sign-off (wide c) (s .args .b), s .fits .b .fits)
 
-capped : (m : ℕ) → m ≤ 2 ^ 31 → min (2 ^ 32 - 1) m ≡ m
-capped m h = omega arith
+sub-size : tie.Need-sub-size
+sub-size c = sign-off (wide c) (c .before .before .args .b)
+
+div-field : tie.Need-div-field
+div-field c = lead-pos (wide c)
+
+mul-sign : tie.Need-mul-sign
+mul-sign c = let s = c .before .before .before in record { fits = sign-fits (wide (c .before)) (s .args .b) (s .pre .6) (c .sign-weight2 .ensures) }
+
+mul-round-whole : tie.Need-mul-round-whole
+mul-round-whole c =
+    let w = c .before .before in
+    let b = w .before .before .args .b in
+    omega (arith, fields-off (wide w) b (c .if1 .taken), size-small (wide w) b)
+
+sub-round-whole : tie.Need-sub-round-whole
+sub-round-whole c = let w = c .before .before in fields-off (wide w) (w .before .before .args .b) (c .if1 .taken)
+
+round-whole-requires : tie.Need-round-whole-requires
+round-whole-requires c κs =
+    let w = c .before .before in
+    let s = w .before .before in
+    (omega (arith, size-small (wide w) (s .args .b)), s .pre .1, omega arith)
 
 returns : tie.Need-returns
 returns c =
-    let s = c .before .before .before in
-    let g = s .args in
-    let k = kind (g .digits) (g .reach) in
-    c .signed-bits .ensures
-    ∙ ap (λ (x : ℕ). cond (leb (2 ^ 63) (g .b)) (signed k) 0 + x) (capped (full k * hidden k) (most-small (g .digits) (g .reach) (s .pre .1) (s .pre .3)))
-    ∙ sym (bits-inf double k (g .b) (c .before .before .if1 .taken) (c .before .if2 .taken))
+    let x = c .before .before .before .before in
+    let s = x .before .before .before in
+    ⊎-elim
+    (λ z. leading (wide (x .before)) (s .args .b) (s .pre .6) (x .sign-weight2 .ensures) (c .before .before .before .if1 .taken) (z .0 .taken) (z .1 ∙ c .before .before .round-whole .ensures))
+    (λ z. past (wide (x .before)) (s .args .b) (s .pre .6) (x .sign-weight2 .ensures) (z .0 .left) (s .pre .7) (z .2 ∙ z .1 .ensures))
+    (c .before .if2 .came)
+
+add-result : tie.Need-add-result
+add-result c = let w = c .before .before .before .before .before in record { fits = answer-fits (wide w) (w .before .before .args .b) (returns c) }
 
 returns-2 : tie.Need-returns-2
-returns-2 c = let g = c .before .before .before .args in c .nan-bits .ensures ∙ sym (bits-nan double (kind (g .digits) (g .reach)) (g .b) (c .before .before .if1 .taken) (c .before .if2 .left))
+returns-2 c =
+    let x = c .before .before in
+    let s = x .before .before .before in
+    none (wide (x .before)) (s .args .b) (s .pre .6) (x .sign-weight2 .ensures) (s .pre .4) (c .before .if1 .left) (c .if3 .taken)
+
+rem-round-whole : tie.Need-rem-round-whole
+rem-round-whole c = lead-pos (wide (c .before .before .before))
+
+add-round-whole : tie.Need-add-round-whole
+add-round-whole c = let w = c .before .before .before in omega (arith, digits-small (wide w) (w .before .before .args .b))
+
+round-whole-requires-2 : tie.Need-round-whole-requires-2
+round-whole-requires-2 c κs =
+    let w = c .before .before .before in
+    (digits-small (wide w) (w .before .before .args .b), omega (arith, c .before .if1 .left), omega (arith, c .if3 .left))
 
 returns-3 : tie.Need-returns-3
 returns-3 c =
-    let s = c .before .before .before .before in
-    let g = s .args in
-    let k = kind (g .digits) (g .reach) in
-    c .signed-bits2 .ensures
-    ∙ ap (λ (x : ℕ). cond (leb (2 ^ 63) (g .b)) (signed k) 0 + min x (full k * hidden k)) (c .before .packed .ensures)
-    ∙ sym (bits-low double k (sized s) (1076 - g .reach - g .digits) (place s) (g .b) (c .before .before .if3 .taken))
+    let e = c .before in
+    let x = e .before .before in
+    let s = x .before .before .before in
+    below (wide (x .before)) (s .args .b) (s .pre .6) (x .sign-weight2 .ensures) (s .pre .4) (e .before .if1 .left) (e .if3 .left) (c .round-whole2 .ensures)
 
-returns-4 : tie.Need-returns-4
-returns-4 c =
-    let s = c .before .before .before .before in
-    let g = s .args in
-    let k = kind (g .digits) (g .reach) in
-    c .signed-bits3 .ensures
-    ∙ ap (λ (x : ℕ). cond (leb (2 ^ 63) (g .b)) (signed k) 0 + min x (full k * hidden k)) (c .before .packed2 .ensures)
-    ∙ sym (bits-mid double k (sized s) (1076 - g .reach - g .digits) (place s) (g .b) (c .before .before .if3 .left) (c .before .before .before .if1 .left))
+add-result-2 : tie.Need-add-result-2
+add-result-2 c = let w = c .before .before .before .before in record { fits = answer-fits (wide w) (w .before .before .args .b) (returns-3 c) }
 
 pub narrow-bits-spec : {M : Type 1} → statement M
 narrow-bits-spec =
     tie.close
-    (tie.spec (λ c. search needs) (λ c. search needs) (λ c κs. search needs) returns (λ c κs. search needs) returns-2 (λ c κs. search needs)
-    (λ c κs. search needs) returns-3 (λ c. search needs) (λ c. search needs) (λ c κs. search needs) (λ c κs. search needs) returns-4)
+    (tie.spec (λ c. search needs) (λ c. search needs) (λ c κs. search needs) (λ c. search needs) (λ c κs. search needs) (λ c. search needs) mul-size
+    sub-size div-field (λ c κs. search needs) mul-sign mul-round-whole sub-round-whole round-whole-requires (λ c. search needs) (λ c. search needs)
+    (λ c κs. search needs) add-result returns (λ c. search needs) (λ c. search needs) (λ c. search needs) (λ c. search needs) returns-2
+    rem-round-whole add-round-whole round-whole-requires-2 add-result-2 returns-3)

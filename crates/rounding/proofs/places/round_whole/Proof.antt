@@ -1,28 +1,42 @@
--- Rounding by places: what the half bit and the bits below it say of what is cut off. Assumes nothing.
-use Prim.Native.Nat.{ℕ, _-_, _^_}
-use mathlib.Core.Path.{_≡_, sym, subst}
-use native.Mathlib.Nat.{div-le-self}
+-- Rounding by places, in one sum. Assumes nothing.
+use Prim.Native.Nat.{ℕ, _+_, _-_, _*_, _/_, _%_, _^_, _≤_}
+use mathlib.Core.Path.{_≡_, sym, ap, _∙_}
 use native.Mathlib.Omega.{arith}
+use lib.Pow.{pow-pos, pow-mono}
 use lib.Ieee.Nearest.{closest}
 use borrow.Author.Needs.{needs}
-use Rattle.rounding.proofs.Cut.{none-cut, all-cut, goes-up, stays}
+use Rattle.rounding.proofs.Digits.{twice}
+use Rattle.rounding.proofs.Closest.{closest-added}
+use Rattle.rounding.proofs.Weights.{weight-is}
 use Rattle.rounding.proofs.places.round_whole.Statement.{statement}
 use Rattle.rounding.proofs.places.round_whole.Tie as tie
 
-returns : tie.Need-returns
-returns c = let m = c .before .args .m in subst (λ (p : ℕ). m ≡ closest m (2 ^ p)) (sym (c .if1 .taken)) (none-cut m)
+-- the half bit's weight
+half-is : (c : tie.Start) → 1 * 2 ^ (c .args .places - 1) % 2 ^ 64 ≡ 2 ^ (c .args .places - 1)
+half-is c = weight-is (c .args .places) (omega arith)
 
-returns-2 : tie.Need-returns-2
-returns-2 c = let s = c .before .before in all-cut (s .args .m) (s .args .places) (s .fits .m .fits) (c .if2 .taken)
+half-small : (c : tie.Start) → 2 ^ (c .args .places - 1) ≤ 2 ^ 62
+half-small c = pow-mono (let l : c .args .places - 1 ≤ 62 = omega arith in l)
+
+sub-result : tie.Need-sub-result
+sub-result c = omega (arith, half-is c, pow-pos (c .args .places - 1))
 
 add-result : tie.Need-add-result
-add-result c = let s = c .before .before .before in omega (arith, s .fits .m .fits, div-le-self (s .args .m) (2 ^ (s .args .places - 1)))
+add-result c = omega (arith, half-is c, half-small c)
 
-returns-3 : tie.Need-returns-3
-returns-3 c = let s = c .before .before .before in goes-up (s .args .m) (s .args .places) (c .before .before .if1 .left) (s .fits .m .fits) (c .if3 .taken)
+add-result-2 : tie.Need-add-result-2
+add-result-2 c = omega (arith, half-is c, half-small c)
 
-returns-4 : tie.Need-returns-4
-returns-4 c = let s = c .before .before .before in stays (s .args .m) (s .args .places) (c .before .before .if1 .left) (s .fits .m .fits) (c .if3 .left)
+returns : tie.Need-returns
+returns c =
+    let m = c .args .m in
+    let p = c .args .places in
+    let unit : 2 ^ p ≡ 2 * 2 ^ (p - 1) = twice p (omega arith) in
+    ap (λ (h : ℕ). (m + (h - 1) + m / 2 ^ p % 2) / 2 ^ p) (half-is c)
+    ∙ sym (ap (closest m) unit ∙ closest-added m (2 ^ (p - 1)) (pow-pos (p - 1))
+    ∙ ap (λ (x : ℕ). (m + (2 ^ (p - 1) - 1) + m / x % 2) / x) (sym unit))
 
 pub round-whole-spec : {M : Type 1} → statement M
-round-whole-spec = tie.close (tie.spec returns returns-2 (λ c. search needs) (λ c. search needs) (λ c. search needs) add-result returns-3 returns-4)
+round-whole-spec =
+    tie.close
+    (tie.spec (λ c. search needs) (λ c. search needs) (λ c. search needs) sub-result add-result add-result-2 (λ c. search needs) returns)
