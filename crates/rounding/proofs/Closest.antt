@@ -3,7 +3,8 @@ use Prim.Native.Nat.{ℕ, suc, _+_, _-_, _*_, _/_, _%_, _≤_, _<_, compare, Ord
 use mathlib.Core.Path.{_≡_, refl, sym, ap, _∙_, subst}
 use mathlib.Core.Bool.{not}
 use mathlib.Core.Logic.{_⊎_, inl, inr}
-use native.Mathlib.Nat.{eq-or-lt-of-le, eq-zero-or-pos, mod-lt, mod-eq-of-lt, div-eq-of-lt, div-eq-of-lt-le, mul-le-mul-right, suc-mul, div-add-mod', add-suc, mul-add-div-right, mul-add-mod-self-right}
+use native.Mathlib.Nat.{eq-or-lt-of-le, eq-zero-or-pos, mod-lt, mod-eq-of-lt, div-eq-of-lt, div-eq-of-lt-le}
+use native.Mathlib.Nat.{mul-le-mul-right, suc-mul, div-add-mod', add-suc, mul-add-div-right, mul-add-mod-self-right}
 use native.Mathlib.Omega.{arith}
 use lib.Arith.{lt-of-le-ne}
 use lib.Dec.{T, eqb, isLe, isEq, leb→le, nleb→lt, eqb→eq, eqb-refl}

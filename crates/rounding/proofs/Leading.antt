@@ -1,14 +1,14 @@
 -- Where a kind and a narrower one both have a leading digit: the narrower one's bits are the wider one's less the difference of the fields, rounded by the
--- difference of the digits. Assumes nothing.
-use Prim.Native.Nat.{ℕ, suc, _+_, _-_, _*_, _/_, _%_, _^_, _≤_, _<_, min, compare, zero-le}
+-- difference of the digits; and past the narrower one's largest value. Assumes nothing.
+use Prim.Native.Nat.{ℕ, suc, _+_, _-_, _*_, _/_, _%_, _^_, _≤_, _<_, min, compare}
 use mathlib.Core.Path.{_≡_, refl, sym, ap, _∙_}
 use mathlib.Core.Bool.{Bool, true, false, cond}
-use mathlib.Core.Logic.{_⊎_, inl, inr}
-use native.Mathlib.Nat.{le-trans, le-of-eq, le-add-right, lt-of-lt-of-le, eq-zero-or-pos, add-zero, add-assoc, mod-lt, min-eq-left, min-eq-right}
-use native.Mathlib.Nat.{le-div-iff-mul-le, div-lt-iff-lt-mul, div-eq-of-lt, one-mul, mul-one, mul-assoc, mul-left-comm, suc-mul, add-mul, mul-le-mul-left, mul-le-mul-right}
+use mathlib.Core.Logic.{inr}
+use native.Mathlib.Nat.{le-trans, le-of-eq, le-add-right, add-assoc, mod-lt, min-eq-left, min-eq-right}
+use native.Mathlib.Nat.{le-div-iff-mul-le, div-lt-iff-lt-mul, one-mul, mul-assoc, mul-left-comm, suc-mul, add-mul, mul-le-mul-right}
 use native.Mathlib.Omega.{arith}
 use lib.Dec.{leb, eqb}
-use lib.Pow.{pow-add, pow-pos, pow-mono}
+use lib.Pow.{pow-add, pow-pos}
 use lib.Ieee.{nan}
 use lib.Ieee.Fits.{nearest-le}
 use lib.Ieee.Nearest.{closest, nearest-ge}
@@ -19,9 +19,9 @@ use Rattle.rounding.specs.Pack.{pack}
 use Rattle.rounding.proofs.Fields.{read, field-and-digits, fields-nan}
 use Rattle.rounding.proofs.Digits.{twice}
 use Rattle.rounding.proofs.Units.{Sized}
-use Rattle.rounding.proofs.Closest.{closest-above, closest-little}
-use Rattle.rounding.proofs.Pack.{pack-as, pack-low}
-use Rattle.rounding.proofs.FromBits.{bits-low, bits-mid, bits-inf}
+use Rattle.rounding.proofs.Closest.{closest-above}
+use Rattle.rounding.proofs.Pack.{pack-as}
+use Rattle.rounding.proofs.FromBits.{bits-mid, bits-inf}
 
 -- ---- in plain numbers: w is the wider kind's weight of a field, t its digits below the leading one, p the narrower kind's digits, d the digits cut off
 module _ (p d t w : ℕ) (two : 2 ≤ p) (weight : w ≡ 2 ^ (p - 1) * 2 ^ d) (below : t < w) where
@@ -74,53 +74,14 @@ module _ (p d t w : ℕ) (two : 2 ≤ p) (weight : w ≡ 2 ^ (p - 1) * 2 ^ d) (b
       let e : (2 * r + 1) * 2 ^ (p - 1) * 2 ^ d ≡ (2 * r + 1) * w = mul-assoc (2 * r + 1) (2 ^ (p - 1)) (2 ^ d) ∙ ap (λ (x : ℕ). (2 * r + 1) * x) (sym weight) in
       le-trans (le-div-iff-mul-le (pow-pos d) .1 (omega (arith, add-mul j 1 w, one-mul w))) (nearest-ge (n / 2 ^ d) (compare (n % 2 ^ d * 2) (2 ^ d)))
 
-  -- a field of f, up to g: no digit is dropped, and what the narrower kind keeps is rounded at its smallest value
-  module _ (f g : ℕ) (some : 0 < f) (low : f ≤ g) where
-    few : (w + t) / 2 ^ (d + g + 1 - f) < 2 ^ (p - 1)
-    few =
-        let e : d + 1 ≤ d + g + 1 - f = omega arith in
-        let a : 2 ^ (p - 1) * 2 ^ (d + 1) ≤ 2 ^ (p - 1) * 2 ^ (d + g + 1 - f) = mul-le-mul-left (2 ^ (p - 1)) (pow-mono e) in
-        let u : 2 ^ (p - 1) * 2 ^ (d + 1) ≡ w * 2 = ap (λ (x : ℕ). 2 ^ (p - 1) * x) (pow-add 2 d 1) ∙ sym (mul-assoc (2 ^ (p - 1)) (2 ^ d) 2) ∙ ap (λ (x : ℕ). x * 2) (sym weight) in
-        div-lt-iff-lt-mul (pow-pos (d + g + 1 - f)) .1 (omega arith)
-
-    packs-low : pack p ((w + t) * 2 ^ (f - 1)) (2 ^ (g + d)) ≡ closest (w + t) (2 ^ (d + g + 1 - f))
-    packs-low =
-        let e : f - 1 + (d + g + 1 - f) ≡ g + d = omega arith in
-        pack-low p ((w + t) * 2 ^ (f - 1)) (2 ^ (g + d)) (w + t) (d + g + 1 - f) P (pow-pos (g + d))
-        (mul-assoc (w + t) (2 ^ (f - 1)) (2 ^ (d + g + 1 - f)) ∙ ap (λ (x : ℕ). (w + t) * x) (sym (pow-add 2 (f - 1) (d + g + 1 - f)) ∙ ap (λ (x : ℕ). 2 ^ x) e))
-        (lt-of-lt-of-le few (pow-mono (let l : p - 1 ≤ p = omega arith in l)))
-
-    low-reach : (r : ℕ) → closest (w + t) (2 ^ (d + g + 1 - f)) ≤ (2 * r + 1) * 2 ^ (p - 1)
-    low-reach r =
-        let q = d + g + 1 - f in
-        le-trans (nearest-le ((w + t) / 2 ^ q) (compare ((w + t) % 2 ^ q * 2) (2 ^ q))) (le-trans few (omega (arith, add-mul (2 * r) 1 (2 ^ (p - 1)), one-mul (2 ^ (p - 1)))))
-
-    -- all its digits are cut off
-    none-left : p + d < d + g + 1 - f → closest (w + t) (2 ^ (d + g + 1 - f)) ≡ 0
-    none-left h =
-        let e : 2 ^ (p + d) * 2 ≤ 2 ^ (d + g + 1 - f) = le-trans (le-of-eq (sym (pow-add 2 (p + d) 1))) (pow-mono (let l : p + d + 1 ≤ d + g + 1 - f = omega arith in l)) in
-        closest-little (w + t) (2 ^ (d + g + 1 - f)) (omega (arith, all))
-      where
-        all : 2 ^ (p + d) ≡ 2 * w
-        all = pow-add 2 p d ∙ ap (λ (x : ℕ). x * 2 ^ d) (twice p P) ∙ mul-assoc 2 (2 ^ (p - 1)) (2 ^ d) ∙ ap (λ (x : ℕ). 2 * x) (sym weight)
-
-  -- a field of 0
-  packs-nothing : (g : ℕ) → p ≤ g → pack p (t * 2 ^ 0) (2 ^ (g + d)) ≡ 0
-  packs-nothing g h =
-      let e : 2 ^ (p - 1) * 2 ^ (d + 1) ≤ 2 ^ (g + d) = le-trans (le-of-eq (sym (pow-add 2 (p - 1) (d + 1)))) (pow-mono (let l : p - 1 + (d + 1) ≤ g + d = omega arith in l)) in
-      let u : 2 ^ (p - 1) * 2 ^ (d + 1) ≡ w * 2 = ap (λ (x : ℕ). 2 ^ (p - 1) * x) (pow-add 2 d 1) ∙ sym (mul-assoc (2 ^ (p - 1)) (2 ^ d) 2) ∙ ap (λ (x : ℕ). x * 2) (sym weight) in
-      let z : t / 2 ^ (g + d) ≡ 0 = div-eq-of-lt (omega arith) in
-      pack-low p (t * 2 ^ 0) (2 ^ (g + d)) t (g + d) P (pow-pos (g + d)) (ap (λ (x : ℕ). x * 2 ^ (g + d)) (mul-one t)) (omega (arith, pow-pos p))
-      ∙ closest-little t (2 ^ (g + d)) (omega arith)
-
 -- ---- over the kinds: d digits cut off, and fields that differ by g
 module _ (source k : Kind) (sized : Sized k) (d g : ℕ) (digits : k .digits + d ≡ source .digits) (reaches : k .reach + g ≡ source .reach) where
   -- the wider kind's smallest value is 2 ^ (g + d) times as small
-  place : least k + (g + d) ≡ least source
+  pub place : least k + (g + d) ≡ least source
   place = omega (arith, sized .two)
 
   -- and its weight of a field 2 ^ d times as large
-  weight-of : hidden source ≡ hidden k * 2 ^ d
+  pub weight-of : hidden source ≡ hidden k * 2 ^ d
   weight-of = let e : source .digits - 1 ≡ k .digits - 1 + d = omega (arith, sized .two) in ap (λ (x : ℕ). 2 ^ x) e ∙ pow-add 2 (k .digits - 1) d
 
   -- a field above g has a leading digit in both kinds; up to g + 2 * reach what is rounded is at most the infinity's bits
@@ -178,35 +139,3 @@ module _ (source k : Kind) (sized : Sized k) (d g : ℕ) (digits : k .digits + d
           ∙ ap (λ (y : ℕ). sign + min (pack (k .digits) ((w + t) * 2 ^ y) (2 ^ (g + d))) most) e
           ∙ ap (λ (y : ℕ). sign + min y most) (packs (k .digits) d t w (sized .two) weight-of below j g)
           ∙ ap (λ (y : ℕ). sign + y) (min-eq-right (past-reach (k .digits) d t w (sized .two) weight-of below j (k .reach) (omega arith)))
-
-  -- a field of at most g has no leading digit in the narrower kind: its digits move on by a place for each field that is missing
-  pub bits-below : (b : ℕ) → 0 < b % signed source / hidden source → b % signed source / hidden source ≤ g
-      → toBits k (convert k (ofBits source b))
-      ≡ cond (leb (signed source) b) (signed k) 0 + closest (hidden source + b % hidden source) (2 ^ (d + g + 1 - b % signed source / hidden source))
-  bits-below b some low =
-      let f = b % signed source / hidden source in
-      let t = b % hidden source in
-      let sign = cond (leb (signed source) b) (signed k) 0 in
-      let below : t < hidden source = mod-lt b (pow-pos (source .digits - 1)) in
-      bits-mid source k sized (g + d) place b (λ e. omega arith) (λ e. omega arith)
-      ∙ ap (λ (x : ℕ). sign + min x (full k * hidden k)) (packs-low (k .digits) d t (hidden source) (sized .two) weight-of below f g some low)
-      ∙ ap (λ (x : ℕ). sign + x) (min-eq-left (low-reach (k .digits) d t (hidden source) (sized .two) weight-of below f g some low (k .reach)))
-
-  -- until none of them is left
-  pub bits-nothing : (b : ℕ) → k .digits ≤ g → b % signed source / hidden source ≤ g → source .digits < d + g + 1 - b % signed source / hidden source
-      → toBits k (convert k (ofBits source b)) ≡ cond (leb (signed source) b) (signed k) 0
-  bits-nothing b far low gone = go (eq-zero-or-pos (b % signed source / hidden source)) ∙ add-zero (cond (leb (signed source) b) (signed k) 0)
-    where
-      go : (b % signed source / hidden source ≡ 0) ⊎ (0 < b % signed source / hidden source)
-          → toBits k (convert k (ofBits source b)) ≡ cond (leb (signed source) b) (signed k) 0 + 0
-      go (inl z) =
-          let sign = cond (leb (signed source) b) (signed k) 0 in
-          bits-low source k sized (g + d) place b z
-          ∙ ap (λ (x : ℕ). sign + min x (full k * hidden k))
-          (packs-nothing (k .digits) d (b % hidden source) (hidden source) (sized .two) weight-of (mod-lt b (pow-pos (source .digits - 1))) g far)
-          ∙ ap (λ (x : ℕ). sign + x) (min-eq-left zero-le)
-      go (inr some) =
-          bits-below b some low
-          ∙ ap (λ (x : ℕ). cond (leb (signed source) b) (signed k) 0 + x)
-          (none-left (k .digits) d (b % hidden source) (hidden source) (sized .two) weight-of (mod-lt b (pow-pos (source .digits - 1)))
-          (b % signed source / hidden source) g some low (omega arith))

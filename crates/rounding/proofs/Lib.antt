@@ -27,6 +27,7 @@ pub mod Normal
 pub mod FromBits
 pub mod Weights
 pub mod Leading
+pub mod Below
 pub mod Narrowed
 pub mod Integer
 pub mod Range

@@ -8,7 +8,7 @@ use lib.Ieee.{Float, Format, binary32, binary64, nan, inf, fin, isNan, nanBits, 
 use lib.Ieee.Bits.{ofBits-toBits, nanBits-is, nanBits-above}
 use lib.Ieee.Compare.{differs-from-itself, nan-differs}
 use borrow.Author.Tests.{lt-ltb, le-ltb}
-use Rattle.rounding.specs.Kind.{Kind, convert}
+use Rattle.rounding.specs.Kind.{Kind, half, convert}
 use Rattle.rounding.specs.Bits.{toBits, ofBits, signed, full, hidden}
 use Rattle.rounding.proofs.Same.{of, ofBits-is}
 use Rattle.rounding.proofs.Back.{bits-back}
@@ -30,6 +30,10 @@ nan-converted k = refl
 
 pub nan-narrowed : (k : Kind) (x : Float) → ne x x ≡ true → convert k x ≡ nan
 nan-narrowed k x h = ap (convert k) (differs-from-itself x (subst T (sym h) tt)) ∙ nan-converted k
+
+pub nan-half : (x : Float) → ne x x ≡ true → 0x7E00 ≡ toBits half (convert half x)
+unfolding toBits
+nan-half x h = ap (toBits half) (sym (nan-narrowed half x h))
 
 -- ---- by the bits
 -- from the bits b of an F32 or F64 that equals itself

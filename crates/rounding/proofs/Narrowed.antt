@@ -17,7 +17,8 @@ use Rattle.rounding.specs.Bits.{hidden, full, signed, toBits, ofBits}
 use Rattle.rounding.proofs.Units.{Sized}
 use Rattle.rounding.proofs.Width.{bits-lt}
 use Rattle.rounding.proofs.Weights.{sign-small}
-use Rattle.rounding.proofs.Leading.{bits-leading, bits-over, bits-below, bits-nothing}
+use Rattle.rounding.proofs.Leading.{bits-leading, bits-over}
+use Rattle.rounding.proofs.Below.{bits-below, bits-nothing}
 
 -- a kind, a wider one of d digits more whose fields count from g further on, and the weights of the wider one's sign and field
 pub record Wide (p r d g above lead : ℕ) : Type 0 where

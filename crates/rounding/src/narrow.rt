@@ -32,18 +32,10 @@ fn infinity(digits: u64, reach: u64) -> u64
     weight(digits) * (2 * reach + 1)
 }
 
-// The one NaN's pattern that is kept.
-fn nan_bits(digits: u64, reach: u64) -> u64
-    requires { ⌜ (1 ≤ digits) × (digits ≤ 53) × (reach ≤ 1023) ⌝ }
-    ensures { λ r. ⌜ r ≡ toBits (kind digits reach) Ieee.nan ⌝ }
-{
-    infinity(digits, reach) + weight(digits) / 2
-}
-
 // The bits of the number that has the bits b in a wider kind, rounded once to a kind. The wider one has `cut` digits more, and its
-// fields count from `off` further on. Where both have a leading digit, a number's bits are the wider kind's less that difference of
-// the fields, rounded by that of the digits; past the largest value they are the infinity's. Below, the digits move on by a place
-// for each field that is missing, until none is left.
+// fields count from `off` further on. Past the largest value they are the infinity's. Where both kinds have a leading digit, a
+// number's bits are the wider kind's less that difference of the fields, rounded by that of the digits. Below, the digits move on
+// by a place for each field that is missing, until none is left.
 fn narrow_bits(b: u64, digits: u64, reach: u64, cut: u64, off: u64) -> u64
     requires { ⌜ (2 ≤ digits) × (1 ≤ cut) × (digits + cut ≤ 53) × (1 ≤ reach) × (digits ≤ off) × (reach + off ≤ 1023)
         × (b < 2 * signed (kind (digits + cut) (reach + off))) × (ofBits (kind (digits + cut) (reach + off)) b ≡ Ieee.nan → ⊥) ⌝ }
@@ -55,14 +47,11 @@ fn narrow_bits(b: u64, digits: u64, reach: u64, cut: u64, off: u64) -> u64
     let size = b - negative * above;
     let field = size / lead;
     let sign = negative * sign_weight(digits, reach);
+    if off + 2 * reach < field {
+        return sign + infinity(digits, reach);
+    }
     if off < field {
-        let q = places::round_whole(size - off * lead, cut);
-        let kept = if field <= off + 2 * reach {
-            q
-        } else {
-            infinity(digits, reach)
-        };
-        return sign + kept;
+        return sign + places::round_whole(size - off * lead, cut);
     }
     let places = cut + off + 1 - field;
     if digits + cut < places {
@@ -71,27 +60,27 @@ fn narrow_bits(b: u64, digits: u64, reach: u64, cut: u64, off: u64) -> u64
     sign + places::round_whole(lead + size % lead, places)
 }
 
-// The bits of x rounded once to F16.
+// The bits of x rounded once to F16, a NaN as it is kept: told apart first, by a test that no number waits for.
 pub fn f64_to_half(x: f64) -> u16
     ensures { λ r. ⌜ r ≡ toBits half (convert half x) ⌝ }
 {
     if x != x {
-        return nan_bits(11, 15) as u16;
+        return 0x7e00;
     }
     narrow_bits(patterns::f64_bits(x), 11, 15, 42, 1008) as u16
 }
 
-// The bits of x rounded once to F16.
+// The bits of x rounded once to F16, likewise.
 pub fn f32_to_half(x: f32) -> u16
     ensures { λ r. ⌜ r ≡ toBits half (convert half x) ⌝ }
 {
     if x != x {
-        return nan_bits(11, 15) as u16;
+        return 0x7e00;
     }
     narrow_bits(patterns::f32_bits(x) as u64, 11, 15, 13, 112) as u16
 }
 
-// x rounded once to F32.
+// x rounded once to F32, likewise.
 pub fn f64_to_f32(x: f64) -> f32
     ensures { λ r. ⌜ r ≡ convert single x ⌝ }
 {

@@ -58,6 +58,16 @@ fn floats() {
 }
 
 #[test]
+fn halves() {
+    check_kind(&Kind {
+        name: "halves",
+        changes: &[&["step=3"], &["step=0x1p-24"], &["step=65504"]],
+        explained: &[&["past"], &["fine"], &["from_odd", "--set", "step=65504"]],
+        coloured: Some("step"),
+    });
+}
+
+#[test]
 fn vectors() {
     check_kind(&Kind {
         name: "vectors",
