@@ -39,7 +39,7 @@ module _ {p r d g above lead : ℕ} (wide : Wide p r d g above lead) where
   sized : Sized target
   sized = record { two = wide .two; one = wide .one }
 
-  pub above-pos : 0 < above
+  above-pos : 0 < above
   above-pos = subst (λ (x : ℕ). 0 < x) (sym (wide .sign-at)) (mul-pos (pow-pos (p + d - 1)) (zero-lt-suc (full source)))
 
   pub lead-pos : 0 < lead

@@ -1,7 +1,7 @@
 -- The weights of a kind as the code works them out, and that they fit. Assumes nothing.
 use Prim.Native.Nat.{ℕ, suc, _+_, _-_, _*_, _%_, _^_, _≤_, _<_}
-use mathlib.Core.Path.{_≡_, sym, ap, _∙_}
-use native.Mathlib.Nat.{le-trans, le-of-eq, one-mul, suc-mul, mul-comm, mod-eq-of-lt, mul-le-mul-left, mul-le-mul-right}
+use mathlib.Core.Path.{_≡_, ap, _∙_}
+use native.Mathlib.Nat.{le-suc, le-trans, le-of-eq, one-mul, mul-comm, mod-eq-of-lt, mul-le-mul-left, mul-le-mul-right}
 use native.Mathlib.Omega.{arith}
 use lib.Pow.{pow-mono, pow-lt}
 use Rattle.rounding.specs.Kind.{kind}
@@ -30,5 +30,6 @@ module _ (p r : ℕ) where
       less : (p : ℕ) → p ≤ 53 → p - 1 ≤ 52
       less p h = omega arith
 
-  pub infinity-small : p ≤ 53 → r ≤ 1023 → full (kind p r) * hidden (kind p r) + hidden (kind p r) ≤ 2 ^ 63
-  infinity-small h l = le-trans (le-of-eq (sym (suc-mul (full (kind p r)) (hidden (kind p r))) ∙ mul-comm (suc (full (kind p r))) (hidden (kind p r)))) (sign-small h l)
+  pub infinity-small : p ≤ 53 → r ≤ 1023 → full (kind p r) * hidden (kind p r) ≤ 2 ^ 63
+  infinity-small h l =
+      le-trans (mul-le-mul-right (hidden (kind p r)) (le-suc (full (kind p r)))) (le-trans (le-of-eq (mul-comm (suc (full (kind p r))) (hidden (kind p r)))) (sign-small h l))

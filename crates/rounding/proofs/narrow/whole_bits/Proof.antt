@@ -1,18 +1,18 @@
 -- A whole number rounded to a kind: its sign's bit and its magnitude, which stops at the infinity's. Assumes nothing.
-use Prim.Native.Nat.{ℕ, _+_, _-_, _*_, _^_, _<_, min}
+use Prim.Native.Nat.{_+_, _*_, _^_, min}
 use mathlib.Core.Path.{_≡_, sym, ap, _∙_}
 use mathlib.Core.Bool.{Bool, cond}
 use mathlib.Core.Logic.{⊎-elim}
-use native.Mathlib.Nat.{zero-add, lt-of-lt-of-le}
+use native.Mathlib.Nat.{zero-add}
 use native.Mathlib.Omega.{arith}
-use lib.Pow.{pow-pos}
 use borrow.Author.Needs.{needs}
 use Rattle.rounding.specs.Kind.{kind, least}
 use Rattle.rounding.specs.Bits.{signed, full, hidden}
 use Rattle.rounding.specs.Pack.{pack}
 use Rattle.rounding.proofs.Units.{Sized}
 use Rattle.rounding.proofs.Pack.{round-bits}
-use Rattle.rounding.proofs.Weights.{sign-small, infinity-small}
+use Rattle.rounding.proofs.Width.{round-lt}
+use Rattle.rounding.proofs.Weights.{sign-small}
 use Rattle.rounding.proofs.narrow.whole_bits.Statement.{statement}
 use Rattle.rounding.proofs.narrow.whole_bits.Tie as tie
 
@@ -27,18 +27,6 @@ capped c =
     ⊎-elim (λ w. omega (arith, w .0 .taken, w .1)) (λ w. omega (arith, w .0 .left, w .1)) (c .if1 .came)
     ∙ (λ i. min (c .before .before .whole-size .ensures i) (c .before .infinity .ensures i))
 
-add-result : tie.Need-add-result
-add-result c =
-    let j = c .before .before .before in
-    let s = j .before .before .before in
-    let g = s .args in
-    let most : full (kind (g .digits) (g .reach)) * hidden (kind (g .digits) (g .reach)) < 2 ^ 63
-    = lt-of-lt-of-le (more (pow-pos (g .digits - 1))) (infinity-small (g .digits) (g .reach) (omega arith) (omega arith)) in
-    omega (arith, c .before .sign-weight .ensures, capped j, sign-small (g .digits) (g .reach) (omega arith) (omega arith))
-  where
-    more : {a b : ℕ} → 0 < b → a < a + b
-    more h = omega arith
-
 returns : tie.Need-returns
 returns c =
     let j = c .before .before .before in
@@ -48,6 +36,12 @@ returns c =
     (λ i. c .before .sign-weight .ensures i + capped j i)
     ∙ ap (λ (b : Bool). cond b (signed k) 0 + min (pack (g .digits) (g .n * 2 ^ least k) 1) (full k * hidden k)) (sym (c .before .before .if2 .taken))
     ∙ sym (round-bits k (sized s) (g .neg) (g .n) 1)
+
+add-result : tie.Need-add-result
+add-result c =
+    let s = c .before .before .before .before .before .before in
+    let g = s .args in
+    omega (arith, returns c, round-lt (kind (g .digits) (g .reach)) (sized s) (g .neg) (g .n) 1, sign-small (g .digits) (g .reach) (omega arith) (omega arith))
 
 returns-2 : tie.Need-returns-2
 returns-2 c =
