@@ -2,7 +2,8 @@
  *
  * An answer is a uint64_t: the number in bits 32 to 39, the detail in bits 0 to 31. Number 0 is success.
  * A slice is a pointer and then a length. Slices that are written to must not overlap any other.
- * No call keeps a pointer, allocates, or needs anything set up first. A refused call changes no byte that it was lent.
+ * No call keeps a pointer, allocates, or needs anything set up first. A refused call changes no byte that it was lent, but for the slot of a
+ * refused shift, which keeps the left operand.
  * docs/FORMAT.md has the bytes of sheets, slots and operands, and says when each number is answered.
  */
 #ifndef BOOTH_H
@@ -15,7 +16,10 @@
 extern "C" {
 #endif
 
-/* Bytes of a slot: status, type, columns, rows, detail in 4 bytes, 16 components of 8 bytes; low byte first, unused components 0. */
+/* Bytes of a slot: status, type, columns, rows, detail in 4 bytes, 16 components of 8 bytes; low byte first, unused components 0.
+ * Where the status is a refusal, type, columns, rows and components are 0. Only a refused shift, 9 and 10, keeps its left operand: its type, which
+ * is I32, U32 or AbstractInt, 1 column, 1 row, and its bits as the first component; of vectors, the operand of the first component that was refused.
+ * Such a slot is no value: an entry that names it is refused with 11. */
 #define BOOTH_SLOT 136
 /* A sheet has at most this many bytes and entries, and an expression at most this many nodes one inside the other. */
 #define BOOTH_SHEET_BYTES 16384
@@ -92,8 +96,8 @@ enum {
     BOOTH_REFUSED_MUL_OVERFLOW = 6,
     BOOTH_REFUSED_DIV_BY_ZERO = 7,
     BOOTH_REFUSED_REM_ZERO_DIV = 8,
-    BOOTH_REFUSED_SHL_OVERFLOW = 9,      /* detail: the count */
-    BOOTH_REFUSED_SHR_OVERFLOW = 10,     /* detail: the count */
+    BOOTH_REFUSED_SHL_OVERFLOW = 9,      /* detail: the count; the slot keeps the left operand */
+    BOOTH_REFUSED_SHR_OVERFLOW = 10,     /* detail: the count; the slot keeps the left operand */
     BOOTH_REFUSED_FROM_ENTRY = 11,       /* detail: the entry named; in slots only */
     BOOTH_REFUSED_SHEET_TOO_LONG = 20,
     BOOTH_REFUSED_BAD_MARK = 21,         /* 21 to 29, detail: a byte place in the sheet */
@@ -143,7 +147,7 @@ static inline const char *booth_name(uint8_t number) {
 }
 
 /* An operand is bytes: type, columns, rows, and 8 bytes for each component of its shape, low byte first.
- * The slot must have exactly BOOTH_SLOT bytes; it is written only where the number is 0.
+ * The slot must have exactly BOOTH_SLOT bytes; all of them are written where the number is 0, 9 or 10, and else none.
  * Judged in this order: operator (25), stage (23), operands, left first (26), size of the slot (30), then what the operator itself refuses. */
 uint64_t wgsl_unary(uint8_t op, uint8_t stage,
                     const uint8_t *operand, size_t operand_len,

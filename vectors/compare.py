@@ -20,14 +20,13 @@ import slots
 
 
 def in_use(outcome, loose):
-    """An outcome as it is compared: status, detail and the value in use."""
+    """An outcome as it is compared: status, detail and the value in use, or the operand carried."""
     status, detail, value = outcome
-    if status != 0:
-        return status, detail
+    value = value or shapes.NOTHING
     comps = value.comps[: value.count]
     if loose and value.ty in scalars.FORMATS:
         comps = tuple(scalars.kept(value.ty, bits) for bits in comps)
-    return 0, detail, value.ty, value.cols, value.rows, comps
+    return status, detail, value.ty, value.cols, value.rows, comps
 
 
 def show(value):
@@ -41,7 +40,8 @@ def show(value):
 def told(outcome):
     """An outcome in a few words."""
     status, detail, value = outcome
-    return show(value) if status == 0 else "refused %d, detail %d" % (status, detail)
+    words = ["refused %d, detail %d" % (status, detail)] if status else []
+    return " ".join(words + ([show(value)] if value and any(value[:3]) else []))
 
 
 def ops(data, loose):

@@ -1,4 +1,7 @@
-"""01's example: a sheet of 59 bytes and its two listings, as printed there."""
+"""01's example: a sheet of 59 bytes and its two listings, as printed there.
+
+The refused shift's line is that of 02 §5: it carries the left operand.
+"""
 
 SHEET = bytes.fromhex(
     "D5 17 03 0C 00 01 04 01 01 05 00 00 00 00 00 00 00"
@@ -16,6 +19,6 @@ sheet 3
 AFTER = """\
 sheet 3
 0 0 4 1 1 0 0000000000000020
-1 9 0 0 0 32
+1 9 4 1 1 32 0000000000000001
 2 11 0 0 0 1
 """

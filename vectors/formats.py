@@ -5,9 +5,7 @@ FORMAT.md describes the same in words.
 
 import struct
 
-from shapes import Value
-
-NOTHING = Value(0, 0, 0, ())
+from shapes import NOTHING, Value
 
 
 def put_operand(value):

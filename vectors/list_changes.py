@@ -15,9 +15,9 @@ import trees
 from example import SHEET
 from list_rounding import nans
 from pools import mixed, tame, wild
-from scalars import BOOL, F32, FORMATS, I32, U32
-from shapes import Outcome
-from writer import binary, record, reference, scalar, setting, unary
+from scalars import BOOL, F32, FORMATS, I32, INTEGERS, SHIFT_OVERFLOWS, U32
+from shapes import Outcome, Value
+from writer import binary, literal, record, reference, scalar, setting, unary
 
 
 def fresh(data):
@@ -79,15 +79,23 @@ def settled_sheet(rng):
             return data
 
 
+def overflow_slot(rng, kept_values):
+    """A shift's refusal: with an operand that it may carry, with none, or with any value."""
+    ty = rng.choice(INTEGERS)
+    value = rng.choice((Value(ty, 1, 1, (wild(rng, ty),)), None, rng.choice(kept_values)))
+    return slots.pack(Outcome(rng.choice(SHIFT_OVERFLOWS), rng.randrange(128), value))
+
+
 def garbage_slot(rng, kept_values):
-    """136 bytes: anything, a well-formed value or a well-formed refusal."""
-    kind = rng.randrange(5)
+    """136 bytes: anything, a refusal, well formed or a shift's, or a well-formed value."""
+    kind = rng.randrange(6)
     if kind == 0:
         return bytes(rng.randrange(256) for _ in range(slots.SIZE))
     if kind == 1:
-        status = rng.randrange(1, 12)
-        detail = rng.randrange(128) if status in (9, 10, 11) else 0
-        return slots.pack(Outcome(status, detail, None))
+        return overflow_slot(rng, kept_values)
+    if kind == 2:
+        status = rng.choice((1, 2, 3, 4, 5, 6, 7, 8, 11))
+        return slots.pack(Outcome(status, rng.randrange(128) if status == 11 else 0, None))
     return slots.pack(Outcome(0, 0, rng.choice(kept_values)))
 
 
@@ -157,6 +165,38 @@ def recovering():
     yield still, fresh(still), [(0, F32, bits) for bits in (0x3F800000, 0x7F800001, 0xFFFFFFFF, 0, 0x80000000)]
 
 
+COUNT, OTHER = reference(0), reference(1)
+
+
+def carrying():
+    """Shifts by a setting: they refuse with an operand, recover, and give way to another refusal or operand."""
+    powers, ones = literal(Value(U32, 1, 3, (1, 2, 4))), literal(Value(U32, 1, 3, (1, 1, 1)))
+    seven, wrong = binary(17, scalar(U32, 7), COUNT), binary(3, scalar(BOOL, 1), scalar(U32, 1))
+    bodies = [
+        binary(17, powers, binary(5, ones, COUNT)), binary(17, scalar(I32, 2 ** 32 - 3), COUNT),
+        binary(17, scalar(1, 2 ** 64 - 3), COUNT), binary(18, scalar(I32, 2 ** 32 - 5), COUNT),
+        binary(6, seven, OTHER), binary(7, seven, OTHER), binary(3, seven, wrong), binary(3, seven, reference(6)),
+        binary(3, seven, binary(18, scalar(U32, 5), OTHER)), unary(2, unary(3, seven)), binary(3, reference(2), ones),
+    ]
+    data = setting(U32, 5) + setting(U32, 3) + b"".join(record(1, body) for body in bodies)
+    steps = [(0, 32), (0, 31), (0, 30), (0, 0), (1, 0), (0, 32), (0, 5), (1, 32), (0, 62), (0, 29), (1, 3), (0, 1)]
+    yield data, fresh(data), [(entry, U32, bits) for entry, bits in steps]
+    yield data, bytearray(b"\xee" * len(fresh(data))), [(entry, U32, bits) for entry, bits in reversed(steps)]
+
+
+def not_operands():
+    """References to a slot that is no operand: a shift's refusal, carrying a good operand or not, or a value beside a detail."""
+    shift = binary(17, scalar(U32, 1), OTHER)
+    data = setting(U32, 5) + setting(U32, 6) + record(1, shift) + record(1, binary(3, COUNT, OTHER))
+    data += record(1, binary(3, COUNT, reference(2))) + record(1, binary(1, binary(8, COUNT, COUNT), reference(2)))
+    operands = [Value(U32, 1, 1, (1,)), Value(I32, 1, 1, (2 ** 32 - 1,)), Value(1, 1, 1, (7,)), None,
+                Value(U32, 1, 2, (1, 1)), Value(F32, 1, 1, (1,)), Value(BOOL, 1, 1, (1,)), Value(U32, 1, 1, (2 ** 32,))]
+    for operand, status, entry in itertools.product(operands, (0,) + SHIFT_OVERFLOWS, (1, 2)):
+        before = fresh(data)
+        fold.put_slot(before, entry, Outcome(status, 32, operand))
+        yield data, before, [(0, U32, 6), (0, U32, 7), (1, U32, 32), (0, U32, 8), (1, U32, 4)]
+
+
 def chains():
     """Long chains and broad sheets: each dependent is counted once."""
     long = setting(U32, 1) + b"".join(record(1, binary(3, reference(n), reference(n))) for n in range(31))
@@ -186,4 +226,4 @@ def hidden():
 def cases(rng):
     """The cases of `changes`."""
     drawn = random_cases(rng, 900), wrong_sizes(rng, 60), refused_sheets(rng, 160)
-    return itertools.chain(recovering(), chains(), hidden(), *drawn)
+    return itertools.chain(recovering(), carrying(), not_operands(), chains(), hidden(), *drawn)

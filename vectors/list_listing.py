@@ -29,6 +29,20 @@ def shapes_sheet():
     ])
 
 
+def shifts_sheet():
+    """Shifts by a setting that refuse with an operand of each integer type, one of a vector, one that may refuse otherwise."""
+    count = writer.reference(0)
+    powers, ones = writer.literal(Value(4, 1, 3, (1, 2, 4))), writer.literal(Value(4, 1, 3, (1, 1, 1)))
+    bodies = [
+        writer.binary(17, writer.scalar(1, (1 << 64) - 3), count),
+        writer.binary(18, writer.scalar(3, (1 << 32) - 3), count),
+        writer.binary(17, powers, writer.binary(5, ones, count)),
+        writer.binary(6, writer.binary(17, writer.scalar(4, 7), count), writer.binary(4, count, writer.scalar(4, 8))),
+        writer.binary(3, writer.reference(1), writer.scalar(1, 1)),
+    ]
+    return writer.setting(4, 5) + b"".join(writer.record(1, body) for body in bodies)
+
+
 def wide_sheet():
     """128 entries: a setting, a matrix and references to it, so that a listing is long."""
     matrix = writer.literal(Value(5, 4, 4, (0x3F800000,) * 16))
@@ -38,6 +52,7 @@ def wide_sheet():
 DATA = {
     "example.sheet": example.SHEET,
     "shapes.sheet": shapes_sheet(),
+    "shifts.sheet": shifts_sheet(),
     "wide.sheet": wide_sheet(),
     # the second body's length is 0: its expression has no byte
     "broken.sheet": example.SHEET[:20] + b"\0" + example.SHEET[21:],
@@ -62,10 +77,14 @@ CASES = [
     "example.sheet 0 3 20",
     "example.sheet 0 1 20",
     "-v example.sheet 0 4 20 2 4 1 0 4 FF",
-    # numbers, shapes, and sheets without entries or refused
+    # numbers and shapes
     "example.sheet 0 4 00000000000000001f",
     "shapes.sheet 3 0 0",
     "-v shapes.sheet 3 0 0",
+    # refused shifts and the operands that they carry
+    "shifts.sheet 0 4 20 0 4 1f 0 4 1e 0 4 8 0 4 3e 0 4 0",
+    "-v shifts.sheet 0 4 ffffffff",
+    # sheets without entries or refused
     "empty",
     "empty 0 4 20",
     "broken.sheet",

@@ -12,7 +12,7 @@ import scalars
 from pools import COUNTS, EDGES, FLOAT_TYPES, MATRICES, SCALAR, SHAPES, VECTORS, mixed, tame, value, wild
 from scalars import ABSTRACT_FLOAT, ABSTRACT_INT, BOOL, F16, F32, FORMATS, I32, INTEGERS, SHIFTS, U32
 from shapes import Value
-from table import float_cases, integer_cases, scalar
+from table import carried_cases, float_cases, integer_cases, scalar
 
 STAGES = (0, 1, 2)
 BINARY_OPS = range(1, 19)
@@ -123,8 +123,8 @@ def unary_scalars():
 
 
 def table_cases():
-    """01's own table cases and the cases that fix an order."""
-    for op, stage, left, right, _ in integer_cases() + float_cases():
+    """01's own table cases, the cases that fix an order and those that fix the operand carried."""
+    for op, stage, left, right, _ in integer_cases() + float_cases() + carried_cases():
         yield 2, op, stage, left, right
 
 
@@ -224,6 +224,47 @@ def refusal_order(rng):
             left = with_component(value(rng, ty, shape, tame), index, rng.choice(extremes(ty)))
             right = with_component(value(rng, ty, shape, tame), index, rng.choice(extremes(ty)))
             yield 2, op, rng.choice(STAGES), left, right
+
+
+def one_or_two(shape):
+    """Each component of a vector alone, and each two of them."""
+    return itertools.combinations_with_replacement(range(shape[1]), 2)
+
+
+def distinct(rng, ty, shape):
+    """A vector whose components all differ, none of them 0."""
+    return Value(ty, *shape, tuple(rng.sample([bits for bits in EDGES[ty] if bits], shape[1])))
+
+
+def carried_by_count(rng):
+    """Shifts of distinct components whose counts are too great at one of them or at two, and else 0."""
+    pairs = [pair for pair in itertools.product(SHIFTS, INTEGERS) if pair != (scalars.SHR, ABSTRACT_INT)]
+    for (op, ty), count, shape in itertools.product(pairs, (U32, ABSTRACT_INT), VECTORS):
+        width = scalars.WIDTHS[ty]
+        for at in one_or_two(shape):
+            left, right = distinct(rng, ty, shape), Value(count, *shape, (0,) * shape[1])
+            for index in at:
+                right = with_component(right, index, rng.choice((width, width + 1, 99, 2 ** 32 - 1)))
+            for stage in STAGES:
+                yield 2, op, stage, left, right
+
+
+def great(rng, ty):
+    """A number that a left shift by 2 or more takes out of its type."""
+    low, high = scalars.RANGES[ty]
+    sign = rng.choice((1, -1)) if low else 1
+    return scalars.pattern(ty, sign * rng.randrange(high // 2 + 1, high))
+
+
+def carried_by_product(rng):
+    """Left shifts by one count for all components, of which one or two are too great for it."""
+    for ty, count, shape in itertools.product(INTEGERS, (U32, ABSTRACT_INT), VECTORS):
+        for at in one_or_two(shape):
+            left, right = value(rng, ty, shape, pools.plain), Value(count, *shape, (rng.randrange(2, 20),) * shape[1])
+            for index in at:
+                left = with_component(left, index, great(rng, ty))
+            for stage in STAGES:
+                yield 2, scalars.SHL, stage, left, right
 
 
 PRODUCT_BITS = (0x7400, 0x7800, 0xF800, 0x4000, 0x3C00, 0x7BFF, 0x0001, 0xC000, 0x0000, 0x7400)
@@ -331,5 +372,5 @@ def ops_shape(rng):
     """The cases of `ops_shape`."""
     table = [case for case in table_cases() if "scalar" != case[3].kind or "scalar" != case[4].kind]
     parts = (shape_grid, type_grid, fitting_grid, unary_shapes, unequal, refusal_order, product_order, malformed,
-             unknown_codes, garbage_beyond, shape_mismatch, conversion_order)
+             unknown_codes, garbage_beyond, shape_mismatch, conversion_order, carried_by_count, carried_by_product)
     return itertools.chain(table, *(part(rng) for part in parts))

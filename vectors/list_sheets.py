@@ -199,6 +199,9 @@ def refused_values():
     bodies = [unary(1, ONE), binary(3, TRUE, ONE), binary(3, top, scalar(1, 1)), binary(4, top, scalar(1, 2 ** 64 - 1)),
               binary(5, top, top), binary(6, scalar(I32, 7), zero), binary(7, scalar(I32, 7), zero),
               binary(17, ONE, scalar(U32, 40)), binary(18, ONE, scalar(U32, 2 ** 32 - 1)), binary(3, half, half),
+              binary(17, scalar(1, 2 ** 64 - 5), scalar(1, 64)), binary(18, scalar(I32, 2 ** 32 - 5), scalar(1, 32)),
+              binary(17, literal(pools.Value(I32, 1, 3, (1, 2 ** 31, 3))), literal(pools.Value(U32, 1, 3, (30, 1, 32)))),
+              binary(18, literal(pools.Value(U32, 1, 4, (6, 7, 8, 9))), literal(pools.Value(1, 1, 4, (31, 0, 32, 33)))),
               binary(14, literal(pools.Value(U32, 1, 2, (1, 2))), literal(pools.Value(U32, 1, 3, (1, 2, 3))))]
     for stage, body in itertools.product(range(3), bodies):
         chain_of = record(stage, unary(3, reference(0))) + record(2, binary(3, reference(1), reference(0)))

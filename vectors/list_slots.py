@@ -6,8 +6,8 @@ import pools
 import scalars
 import slots
 from list_rounding import nans
-from pools import SHAPES, wild
-from scalars import FORMATS, WIDTHS
+from pools import EDGES, SHAPES, wild
+from scalars import FORMATS, INTEGERS, SHIFT_OVERFLOWS, WIDTHS
 from shapes import Outcome, Value
 
 
@@ -44,10 +44,12 @@ def headers(rng):
         yield raw(0, ty, cols, rows, 0)
 
 
+DETAILS = (0, 1, 31, 32, 127, 128, 129, 255, 256, 2 ** 16, 2 ** 24, 2 ** 31, 2 ** 32 - 1)
+
+
 def refusals():
     """Every status with details at the edges, and with one field not 0."""
-    details = (0, 1, 31, 32, 127, 128, 129, 255, 256, 2 ** 16, 2 ** 24, 2 ** 31, 2 ** 32 - 1)
-    for status, detail in itertools.product(list(range(13)) + [20, 26, 32, 128, 255], details):
+    for status, detail in itertools.product(list(range(13)) + [20, 26, 32, 128, 255], DETAILS):
         yield raw(status, 0, 0, 0, detail)
         yield raw(status, scalars.U32, 1, 1, detail, (7,))
     for status in range(1, 13):
@@ -55,6 +57,29 @@ def refusals():
             yield raw(status, *fields, 0)
         for index, bits in itertools.product(range(16), (1, 2 ** 63)):
             yield raw(status, 0, 0, 0, 0, (0,) * index + (bits,))
+
+
+def operands():
+    """Status 9 and 10 with an integer: edges of its type, each of 64 bits alone, details at the edges."""
+    for status, ty in itertools.product(SHIFT_OVERFLOWS, INTEGERS):
+        for bits in EDGES[ty] + [1 << bit for bit in range(64)] + [2 ** 64 - 1]:
+            yield raw(status, ty, 1, 1, 32, (bits,))
+        for detail in DETAILS:
+            yield raw(status, ty, 1, 1, detail, (2 ** WIDTHS[ty] - 1,))
+
+
+NO_SCALARS = ((0, 0), (0, 1), (1, 0), (1, 2), (1, 3), (1, 4), (2, 1), (2, 2), (4, 4), (1, 255), (255, 1), (255, 255))
+
+
+def not_operands():
+    """Status 9 and 10 with the type, the shape or an unused component alone wrong."""
+    for status, ty, bits in itertools.product(SHIFT_OVERFLOWS, (0, 1, 2, 3, 4, 5, 6, 7, 8, 9, 128, 255), (0, 1)):
+        yield raw(status, ty, 1, 1, 32, (bits,))
+    for status, ty, shape in itertools.product(SHIFT_OVERFLOWS, INTEGERS, NO_SCALARS):
+        yield raw(status, ty, *shape, 32, (1,))
+        yield raw(status, ty, *shape, 32, (1,) * min(shape[0] * shape[1], 16))
+    for status, ty, index, bits in itertools.product(SHIFT_OVERFLOWS, INTEGERS, range(1, 16), (1, 2 ** 63)):
+        yield raw(status, ty, 1, 1, 32, (1,) + (0,) * (index - 1) + (bits,))
 
 
 def details_of_values(rng):
@@ -96,7 +121,7 @@ def other_nans(rng):
 def flipped(rng):
     """Good slots with each byte changed in turn."""
     base = [slots.pack(Outcome(0, 0, Value(5, 2, 3, (0x3F800000,) * 6))), slots.pack(Outcome(11, 5, None)),
-            slots.pack(Outcome(9, 40, None)), slots.pack(Outcome(0, 0, Value(0, 1, 1, (1,))))]
+            slots.pack(Outcome(9, 40, Value(3, 1, 1, (0x80000001,)))), slots.pack(Outcome(0, 0, Value(0, 1, 1, (1,))))]
     for slot, at in itertools.product(base, range(slots.SIZE)):
         yield slot[:at] + bytes([slot[at] ^ 1 << rng.randrange(8)]) + slot[at + 1:]
 
@@ -112,4 +137,5 @@ def random_slots(rng):
 def cases(rng):
     """The slots of the list, each once."""
     parts = (good, headers, details_of_values, unused, too_wide, other_nans, flipped, random_slots)
-    return dict.fromkeys(itertools.chain(refusals(), *(part(rng) for part in parts)))
+    fixed = itertools.chain(refusals(), operands(), not_operands())
+    return dict.fromkeys(itertools.chain(fixed, *(part(rng) for part in parts)))

@@ -22,11 +22,11 @@ DIGITS = {10: "0123456789", 16: "0123456789abcdefABCDEF"}
 
 
 def line(entry, slot):
-    """Entry, status, type, columns, rows, detail, components in use."""
+    """Entry, status, type, columns, rows, detail, components in use if well formed."""
     status, detail, value = slots.unpack(slot)
     words = ["%d %d %d %d %d %d" % (entry, status, value.ty, value.cols, value.rows, detail)]
-    known = slots.value_of(slot)
-    words += ["%016x" % bits for bits in known.comps] if known else []
+    used = value.comps[: value.count] if slots.well_formed(slot) else ()
+    words += ["%016x" % bits for bits in used]
     return " ".join(words) + "\n"
 
 

@@ -1,7 +1,8 @@
 """Scalars: seven types, their conversions and the operators in three stages.
 
 A scalar is a type number and a pattern of at most 64 bits. An operation
-gives a pattern or raises Refused with a number and a detail.
+gives a pattern or raises Refused with a number and a detail, a shift also with
+its left operand.
 """
 
 import floats
@@ -21,6 +22,7 @@ INTEGERS = tuple(RANGES)
 UNARY, BINARY, COMPWISE_BINARY = 1, 2, 3
 ADD_OVERFLOW, SUB_OVERFLOW, MUL_OVERFLOW = 4, 5, 6
 DIV_BY_ZERO, REM_ZERO_DIV, SHL_OVERFLOW, SHR_OVERFLOW, FROM_ENTRY = 7, 8, 9, 10, 11
+SHIFT_OVERFLOWS = (SHL_OVERFLOW, SHR_OVERFLOW)
 
 NOT, NEG, BITNOT = 1, 2, 3
 LOGICAL_OR, LOGICAL_AND, ADD, SUB, MUL, DIV, REM = range(1, 8)
@@ -35,12 +37,17 @@ NOT_FINITE = {ADD: ADD_OVERFLOW, SUB: SUB_OVERFLOW, MUL: MUL_OVERFLOW, REM: REM_
 
 
 class Refused(Exception):
-    """An operation or a call ends with this number and detail."""
+    """An operation or a call ends with this number and detail.
 
-    def __init__(self, number, detail=0):
-        super().__init__(number, detail)
+    A shift's refusal carries its left operand, a type and a pattern; any other
+    carries None.
+    """
+
+    def __init__(self, number, detail=0, operand=None):
+        super().__init__(number, detail, operand)
         self.number = number
         self.detail = detail
+        self.operand = operand
 
 
 def proper(ty, bits):
@@ -140,7 +147,7 @@ def binary(op, stage, ty, left, right):
     For a shift the right pattern is a count in U32.
     """
     if op in SHIFTS:
-        return shift(op, stage, ty, whole(ty, left), right)
+        return shift(op, stage, ty, left, right)
     if op in COMPARISONS:
         return compare(op, ty, left, right)
     if op in (LOGICAL_OR, BIT_OR):
@@ -203,19 +210,21 @@ def compare(op, ty, left, right):
     return 1 if holds[op] else 0
 
 
-def shift(op, stage, ty, number, count):
-    """Shifts of a number by a count, which is from 0 to 2^32 - 1."""
+def shift(op, stage, ty, left, count):
+    """Shifts of a pattern by a count, which is from 0 to 2^32 - 1."""
+    overflow = Refused(SHL_OVERFLOW if op == SHL else SHR_OVERFLOW, count, (ty, left))
+    number = whole(ty, left)
     if ty != ABSTRACT_INT and count > 31:
         if stage != EXEC:
-            raise Refused(SHL_OVERFLOW if op == SHL else SHR_OVERFLOW, count)
+            raise overflow
         count %= 32
     if op == SHR:
         return pattern(ty, number >> min(count, 64))
     if count > 63:
         if stage != EXEC and number != 0:
-            raise Refused(SHL_OVERFLOW, count)
+            raise overflow
         return 0
     product = number * 2 ** count
     if stage != EXEC and not fits(ty, product):
-        raise Refused(SHL_OVERFLOW, count)
+        raise overflow
     return pattern(ty, product)

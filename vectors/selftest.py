@@ -1,4 +1,4 @@
-"""Tests of the model: 01's table cases and example, the machine's own floats."""
+"""Tests of the model: 01's table cases and example, answers by hand, the machine's own floats."""
 
 import collections
 import itertools
@@ -12,14 +12,15 @@ import floats
 import fold
 import list_ops
 import list_rounding
+import listing
 import pools
+import scalars
 import shapes
 import slots
 from example import AFTER, BEFORE, SHEET
-from listing import listings
 from scalars import U32
 from shapes import Value
-from table import PLACES, float_cases, integer_cases
+from table import PLACES, SLOTS, carried_cases, float_cases, integer_cases, scalar
 
 MACHINE = {"+": operator.add, "-": operator.sub, "*": operator.mul, "/": operator.truediv}
 CODES = {
@@ -30,15 +31,14 @@ CODES = {
 
 
 def expected(answer):
-    """An answer in short: a value, a refusal's number, or number and detail."""
+    """The outcome that an answer of table.py stands for."""
     if isinstance(answer, Value):
         return shapes.Outcome(0, 0, answer)
-    number, detail = answer if isinstance(answer, tuple) else (answer, 0)
-    return shapes.Outcome(number, detail, None)
+    return shapes.Outcome(*answer) if isinstance(answer, tuple) else shapes.Outcome(answer, 0, None)
 
 
 def test_table():
-    for op, stage, left, right, answer in integer_cases() + float_cases():
+    for op, stage, left, right, answer in integer_cases() + float_cases() + carried_cases():
         got = shapes.model_ops(2, op, stage, left, right)
         assert got == expected(answer), (op, stage, left, right, got)
 
@@ -48,8 +48,16 @@ def test_example():
     assert len(SHEET) == 59
     assert fold.evaluate(SHEET, results) == (0, 3)
     assert fold.change(SHEET, results, 0, U32, 32) == (0, 2)
-    assert listings(SHEET, [(0, U32, 32), (1, U32, 32)]) == BEFORE + AFTER + "refused 31\n"
-    assert listings(SHEET[:-1], []) == "refused 22\n"
+    assert listing.listings(SHEET, [(0, U32, 32), (1, U32, 32)]) == BEFORE + AFTER + "refused 31\n"
+    assert listing.listings(SHEET[:-1], []) == "refused 22\n"
+
+
+def test_slots():
+    for text, good, line in SLOTS:
+        slot = bytes.fromhex(text).ljust(slots.SIZE, b"\0")
+        assert slots.well_formed(slot) == good, text
+        assert listing.line(1, slot) == line + "\n", text
+        assert (slots.value_of(slot) is not None) == (good and slot[0] == 0), text
 
 
 def test_places():
@@ -141,6 +149,28 @@ def test_coverage():
             assert (op, stage, left, right) in type_pairs, (op, stage, left, right)
 
 
+def overflows(op, stage, left, right):
+    """The components at which a shift of two vectors refuses."""
+    pairs = enumerate(zip(left.comps, right.comps))
+    lone = ((at, shapes.model_ops(2, op, stage, scalar(left.ty, a), scalar(right.ty, b))) for at, (a, b) in pairs)
+    return [at for at, outcome in lone if outcome.status in scalars.SHIFT_OVERFLOWS]
+
+
+def test_carried():
+    """The list of shapes has shifts that refuse past component 0, and at two components, where the bits of the two differ."""
+    past, twice = set(), set()
+    for kind, op, stage, left, right in list_ops.ops_shape(random.Random(1)):
+        shift = kind == 2 and op in scalars.SHIFTS
+        if shift and shapes.model_ops(2, op, stage, left, right).status in scalars.SHIFT_OVERFLOWS:
+            left, right = shapes.taken(left), shapes.taken(right)
+            first, *others = overflows(op, stage, left, right)
+            past |= {(op, left.ty, right.ty)} if left.comps[first] != left.comps[0] else set()
+            twice |= {(op, left.ty, right.ty)} if others and left.comps[first] != left.comps[others[-1]] else set()
+    pairs = itertools.product(scalars.SHIFTS, scalars.INTEGERS, (U32, scalars.ABSTRACT_INT))
+    refusing = {pair for pair in pairs if pair[:2] != (scalars.SHR, scalars.ABSTRACT_INT)}
+    assert past == twice == refusing, (past, twice)
+
+
 def test_rounding_kinds():
     """The list `rounding` has every kind of conversion, hundreds of records of each; `rounding_back` has kind 3 of every F16 value."""
     counts = collections.Counter(what for what, _, _ in list_rounding.rounding(random.Random(1)))
@@ -149,7 +179,8 @@ def test_rounding_kinds():
 
 
 def main():
-    tests = test_table, test_example, test_places, test_arithmetic, test_conversion, test_coverage, test_rounding_kinds
+    tests = (test_table, test_example, test_slots, test_places, test_arithmetic, test_conversion, test_coverage, test_carried,
+             test_rounding_kinds)
     for test in tests:
         test()
         print(test.__name__, "passed")

@@ -32,8 +32,15 @@ class Value(NamedTuple):
         return "matrix"
 
 
+NOTHING = Value(0, 0, 0, ())
+
+
 class Outcome(NamedTuple):
-    """Status 0 with a value, or a refusal's number with its detail."""
+    """Status 0 with a value, or a refusal's number with its detail.
+
+    The value of a shift's refusal is the left operand that it carries; other
+    refusals have None.
+    """
 
     status: int
     detail: int
@@ -203,9 +210,17 @@ def direct(kind, op, stage, left, right=None):
     return binary(op, stage, taken(left), taken(right))
 
 
+def carried(operand):
+    """The value of the operand that a refusal carries, a scalar, or None."""
+    if operand is None:
+        return None
+    ty, bits = operand
+    return Value(ty, 1, 1, (bits,))
+
+
 def model_ops(kind, op, stage, left, right=None):
     """The outcome of a direct call: kind 1 is unary, kind 2 binary."""
     try:
         return Outcome(0, 0, direct(kind, op, stage, left, right))
     except Refused as refusal:
-        return Outcome(refusal.number, refusal.detail, None)
+        return Outcome(refusal.number, refusal.detail, carried(refusal.operand))

@@ -8,7 +8,7 @@ import struct
 
 import scalars
 import shapes
-from shapes import Outcome, Value
+from shapes import NOTHING, Outcome, Value
 
 SIZE = 136
 LAYOUT = struct.Struct("<BBBBI16Q")
@@ -16,11 +16,9 @@ LAYOUT = struct.Struct("<BBBBI16Q")
 
 def pack(outcome):
     """The 136 bytes of an outcome; what is not in use is 0."""
-    if outcome.status != 0:
-        return LAYOUT.pack(outcome.status, 0, 0, 0, outcome.detail, *[0] * 16)
-    value = outcome.value
+    value = outcome.value or NOTHING
     comps = list(value.comps) + [0] * (16 - len(value.comps))
-    return LAYOUT.pack(0, value.ty, value.cols, value.rows, outcome.detail, *comps)
+    return LAYOUT.pack(outcome.status, value.ty, value.cols, value.rows, outcome.detail, *comps)
 
 
 def unpack(slot):
@@ -37,10 +35,13 @@ def value_ok(value):
     return not any(unused) and all(scalars.kept(value.ty, bits) == bits for bits in used)
 
 
+def operand_ok(value):
+    """The left operand of a shift's refusal: an integer scalar as kept."""
+    return value.ty in scalars.INTEGERS and value.kind == "scalar" and value_ok(value)
+
+
 def detail_ok(status, detail):
-    """The details that a refusal's slot may have."""
-    if status in (scalars.SHL_OVERFLOW, scalars.SHR_OVERFLOW):
-        return True
+    """The details that the slot of a refusal without operand may have."""
     if status == scalars.FROM_ENTRY:
         return detail < 128
     return detail == 0
@@ -51,6 +52,8 @@ def well_formed(slot):
     status, detail, value = unpack(slot)
     if status == 0:
         return detail == 0 and value_ok(value)
+    if status in scalars.SHIFT_OVERFLOWS:
+        return operand_ok(value)
     bare = not any(value[:3]) and not any(value.comps)
     return 1 <= status <= 11 and bare and detail_ok(status, detail)
 

@@ -1,4 +1,8 @@
-"""Answers written down by hand: 01's table cases, orders, places in a sheet."""
+"""Answers written down by hand: 01's table cases, orders, operands carried, slots, places in a sheet.
+
+An answer is a value, a refusal's number, or a refusal's number, detail and
+operand carried.
+"""
 
 import floats
 import scalars
@@ -30,10 +34,10 @@ def integer_cases():
         (scalars.DIV, EXEC, integer(I32, least), integer(I32, -1), integer(I32, least)),
         (scalars.REM, OVERRIDE, integer(I32, 7), integer(I32, 0), 8),
         (scalars.REM, EXEC, integer(I32, 7), integer(I32, 0), integer(I32, 0)),
-        (scalars.SHL, CONST, one, count(32), (9, 32)),
+        (scalars.SHL, CONST, one, count(32), (9, 32, one)),
         (scalars.SHL, EXEC, one, count(32), one),
         (scalars.SHL, CONST, integer(I32, -1), count(31), integer(I32, least)),
-        (scalars.SHL, CONST, integer(I32, 1), count(31), (9, 31)),
+        (scalars.SHL, CONST, integer(I32, 1), count(31), (9, 31, integer(I32, 1))),
         (scalars.SHR, CONST, five, count(65), integer(ABSTRACT_INT, -1)),
         (scalars.SHR, CONST, scalar(BOOL, 1), count(0), 2),
         (scalars.DIV, EXEC, integer(ABSTRACT_INT, 5), integer(I32, 0), integer(I32, 5)),
@@ -57,6 +61,49 @@ def float_cases():
         (scalars.DIV, EXEC, integer(ABSTRACT_INT, 7), flat(F32, 1, 2, 0, 2), mixed),
     ]
 
+
+def integers(ty, *numbers):
+    """An integer vector."""
+    return Value(ty, 1, len(numbers), tuple(scalars.pattern(ty, n) for n in numbers))
+
+
+def carried_cases():
+    """02 §5: the left operand that a shift's refusal carries, of a vector that of its first failing component."""
+    counts, powers = integers(U32, 31, 31, 31), integers(U32, 1, 2, 4)
+    signed, wide = integers(I32, 7, -1, -5), integers(ABSTRACT_INT, 1, -(2 ** 62), -3)
+    return [
+        (scalars.SHR, OVERRIDE, integer(I32, -1), integer(U32, 40), (10, 40, scalar(I32, 0xFFFFFFFF))),
+        (scalars.SHR, CONST, integer(U32, 9), integer(ABSTRACT_INT, 33), (10, 33, scalar(U32, 9))),
+        (scalars.SHL, CONST, integer(ABSTRACT_INT, -1), integer(U32, 64), (9, 64, scalar(ABSTRACT_INT, 2 ** 64 - 1))),
+        (scalars.SHL, OVERRIDE, integer(ABSTRACT_INT, 2 ** 62), integer(U32, 1), (9, 1, scalar(ABSTRACT_INT, 2 ** 62))),
+        (scalars.SHL, CONST, powers, counts, (9, 31, scalar(U32, 2))),
+        (scalars.SHL, CONST, powers, integers(ABSTRACT_INT, 30, 30, 30), (9, 30, scalar(U32, 4))),
+        (scalars.SHR, CONST, signed, integers(U32, 0, 32, 99), (10, 32, scalar(I32, 0xFFFFFFFF))),
+        (scalars.SHR, OVERRIDE, signed, integers(ABSTRACT_INT, 31, 31, 32), (10, 32, scalar(I32, 0xFFFFFFFB))),
+        (scalars.SHL, CONST, wide, integers(U32, 62, 2, 62), (9, 2, scalar(ABSTRACT_INT, 0xC000000000000000))),
+        (scalars.SHL, CONST, wide, integers(U32, 62, 1, 62), (9, 62, scalar(ABSTRACT_INT, 2 ** 64 - 3))),
+    ]
+
+
+# Slots in hex without the zeros at their end, whether they are well formed, and their line as entry 1 of a listing.
+SLOTS = [
+    ("00040101 00000000 07", True, "1 0 4 1 1 0 0000000000000007"),
+    ("09040101 20000000 01", True, "1 9 4 1 1 32 0000000000000001"),
+    ("0A030101 FFFFFFFF FFFFFFFF", True, "1 10 3 1 1 4294967295 00000000ffffffff"),
+    ("09010101 00000000 FEFFFFFFFFFFFFFF", True, "1 9 1 1 1 0 fffffffffffffffe"),
+    ("09040101 20000000", True, "1 9 4 1 1 32 0000000000000000"),
+    ("09000000 20000000", False, "1 9 0 0 0 32"),
+    ("0A000000 20000000", False, "1 10 0 0 0 32"),
+    ("09050101 20000000 01", False, "1 9 5 1 1 32"),
+    ("09000101 20000000 01", False, "1 9 0 1 1 32"),
+    ("0A070101 20000000 01", False, "1 10 7 1 1 32"),
+    ("09040102 20000000 01", False, "1 9 4 1 2 32"),
+    ("09040001 20000000 01", False, "1 9 4 0 1 32"),
+    ("09030101 20000000 0000000001", False, "1 9 3 1 1 32"),
+    ("09040101 20000000 0100000000000000 01", False, "1 9 4 1 1 32"),
+    ("07040101 00000000 01", False, "1 7 4 1 1 0"),
+    ("0B000000 01000000", True, "1 11 0 0 0 1"),
+]
 
 # Sheets in hex, with the number and the place that 01's checks give them.
 SETTING = "D517030C00010401010500000000000000"

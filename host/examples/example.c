@@ -38,15 +38,13 @@ static uint64_t number_at(const uint8_t *bytes, int size) {
     return number;
 }
 
-static void print_entry(uint32_t k, const uint8_t *slot) {
+/* The components in a slot, by their type. */
+static void print_components(const uint8_t *slot) {
     int components = slot[2] * slot[3];
     uint32_t low = (uint32_t)number_at(slot + 8, 4);
     float single;
     memcpy(&single, &low, sizeof single);
-    printf("entry %" PRIu32 ": %s", k, booth_name(slot[0]));
-    if (slot[0] != BOOTH_OK) {
-        printf(" %" PRIu32, (uint32_t)number_at(slot + 4, 4));
-    } else if (components == 1 && slot[1] == BOOTH_U32) {
+    if (components == 1 && slot[1] == BOOTH_U32) {
         printf(" %" PRIu32, low);
     } else if (components == 1 && slot[1] == BOOTH_I32) {
         printf(" %" PRId64, low <= INT32_MAX ? (int64_t)low : (int64_t)low - UINT32_MAX - 1);
@@ -56,6 +54,15 @@ static void print_entry(uint32_t k, const uint8_t *slot) {
         printf(" type %u, %ux%u:", slot[1], slot[2], slot[3]);
         for (int c = 0; c < components; c++) printf(" %016" PRIx64, number_at(slot + 8 + 8 * c, 8));
     }
+}
+
+/* A value, or a refusal with its detail; a refused shift has its left operand too. */
+static void print_entry(uint32_t k, const uint8_t *slot) {
+    int shift = slot[0] == BOOTH_REFUSED_SHL_OVERFLOW || slot[0] == BOOTH_REFUSED_SHR_OVERFLOW;
+    printf("entry %" PRIu32 ": %s", k, booth_name(slot[0]));
+    if (slot[0] != BOOTH_OK) printf(" %" PRIu32, (uint32_t)number_at(slot + 4, 4));
+    if (shift) printf(", operand");
+    if (shift || slot[0] == BOOTH_OK) print_components(slot);
     printf("\n");
 }
 

@@ -50,6 +50,10 @@ impl Type {
         }
     }
 
+    pub fn is_integer(self) -> bool {
+        matches!(self, Type::AbstractInt | Type::I32 | Type::U32)
+    }
+
     pub fn is_float(self) -> bool {
         matches!(self, Type::AbstractFloat | Type::F32 | Type::F16)
     }

@@ -1,6 +1,8 @@
 //! The refusals, with their numbers and names.
 use std::{error::Error, fmt};
 
+use crate::Scalar;
+
 /// Why a call, an operation or an entry has no value. Places are byte places in the sheet.
 #[derive(Clone, Copy, Debug, PartialEq, Eq, Hash)]
 pub enum Refusal {
@@ -15,11 +17,15 @@ pub enum Refusal {
     MulOverflow,
     DivByZero,
     RemZeroDiv,
+    /// The left operand has no room for the count. Of a vector it is that of the first component that refused.
     ShlOverflow {
         count: u32,
+        operand: Scalar,
     },
+    /// A count above 31 on 32 bits, with the operand as in `ShlOverflow`.
     ShrOverflow {
         count: u32,
+        operand: Scalar,
     },
     /// The entry named has no value.
     FromEntry {
@@ -59,7 +65,7 @@ pub enum Refusal {
     NotASetting,
     /// The new content is not of the setting's type.
     SettingType,
-    /// A number that this crate does not know.
+    /// A number that this crate does not know, or a shift's without its operand.
     Other {
         number: u8,
         detail: u32,
@@ -67,9 +73,11 @@ pub enum Refusal {
 }
 
 impl Refusal {
-    /// The refusal of a number and a detail; nothing for number 0.
-    pub fn new(number: u8, detail: u32) -> Option<Refusal> {
-        let place = detail;
+    /// The refusal of a number and a detail; nothing for number 0. A shift's, 9 and 10, take the operand, and are `Other` without one or with
+    /// one that is no integer; every other number leaves it out.
+    pub fn new(number: u8, detail: u32, operand: Option<Scalar>) -> Option<Refusal> {
+        let (count, place, other) = (detail, detail, Refusal::Other { number, detail });
+        let operand = operand.filter(|operand| operand.ty().is_integer());
         Some(match number {
             0 => return None,
             1 => Refusal::Unary,
@@ -80,8 +88,8 @@ impl Refusal {
             6 => Refusal::MulOverflow,
             7 => Refusal::DivByZero,
             8 => Refusal::RemZeroDiv,
-            9 => Refusal::ShlOverflow { count: detail },
-            10 => Refusal::ShrOverflow { count: detail },
+            9 => operand.map_or(other, |operand| Refusal::ShlOverflow { count, operand }),
+            10 => operand.map_or(other, |operand| Refusal::ShrOverflow { count, operand }),
             11 => Refusal::FromEntry { entry: detail },
             20 => Refusal::SheetTooLong,
             21 => Refusal::BadMark { place },
@@ -96,13 +104,13 @@ impl Refusal {
             30 => Refusal::ResultsSize,
             31 => Refusal::NotASetting,
             32 => Refusal::SettingType,
-            number => Refusal::Other { number, detail },
+            _ => other,
         })
     }
 
-    /// The detail of an answer that succeeded, or its refusal.
-    pub(crate) fn of(answer: u64) -> Result<u32, Refusal> {
-        match Refusal::new((answer >> 32) as u8, answer as u32) {
+    /// The detail of an answer that succeeded, or its refusal, with the operand that a shift's has.
+    pub(crate) fn of(answer: u64, operand: Option<Scalar>) -> Result<u32, Refusal> {
+        match Refusal::new((answer >> 32) as u8, answer as u32, operand) {
             None => Ok(answer as u32),
             Some(refusal) => Err(refusal),
         }
@@ -118,6 +126,14 @@ impl Refusal {
 
     pub fn detail(self) -> u32 {
         self.parts().2
+    }
+
+    /// The left operand that a refused shift keeps.
+    pub fn operand(self) -> Option<Scalar> {
+        match self {
+            Refusal::ShlOverflow { operand, .. } | Refusal::ShrOverflow { operand, .. } => Some(operand),
+            _ => None,
+        }
     }
 
     /// What it means, in a sentence for people.
@@ -147,8 +163,12 @@ impl Refusal {
     fn sentence_with_detail(self) -> String {
         let place = self.detail();
         match self {
-            Refusal::ShlOverflow { count } => format!("the left shift leaves no room for the count {count}"),
-            Refusal::ShrOverflow { count } => format!("32 bits cannot be shifted right by the count {count}"),
+            Refusal::ShlOverflow { count, operand } => {
+                format!("{operand} << {count} leaves no room for the count {count}")
+            }
+            Refusal::ShrOverflow { count, operand } => {
+                format!("{operand} >> {count}: 32 bits cannot be shifted right by the count {count}")
+            }
             Refusal::FromEntry { entry } => format!("no value: #{entry} has none"),
             Refusal::BadMark { .. } => format!("no record begins at byte {place}: its mark is not D5 17"),
             Refusal::CutShort { .. } => format!("byte {place} is missing"),
@@ -182,8 +202,8 @@ impl Refusal {
             Refusal::MulOverflow => (6, "MulOverflow", 0),
             Refusal::DivByZero => (7, "DivByZero", 0),
             Refusal::RemZeroDiv => (8, "RemZeroDiv", 0),
-            Refusal::ShlOverflow { count } => (9, "ShlOverflow", count),
-            Refusal::ShrOverflow { count } => (10, "ShrOverflow", count),
+            Refusal::ShlOverflow { count, .. } => (9, "ShlOverflow", count),
+            Refusal::ShrOverflow { count, .. } => (10, "ShrOverflow", count),
             Refusal::FromEntry { entry } => (11, "FromEntry", entry),
             Refusal::SheetTooLong => (20, "SheetTooLong", 0),
             Refusal::BadMark { place } => (21, "BadMark", place),
@@ -203,7 +223,7 @@ impl Refusal {
     }
 }
 
-/// The name and a sentence: `ShlOverflow: the left shift leaves no room for the count 32`.
+/// The name and a sentence: `ShlOverflow: 1u << 32 leaves no room for the count 32`.
 impl fmt::Display for Refusal {
     fn fmt(&self, f: &mut fmt::Formatter) -> fmt::Result {
         write!(f, "{}: {}", self.name(), self.sentence())

@@ -1,7 +1,7 @@
 //! Results: what the entries of a sheet have come to.
 use std::{convert::TryInto, fmt};
 
-use crate::{binary, change, fresh, unary, Expr, Kind, Refusal, Sheet, Stage, Type, Value, SLOT};
+use crate::{binary, change, fresh, unary, Expr, Kind, Refusal, Scalar, Sheet, Stage, Type, Value, SLOT};
 
 /// What an entry has come to.
 #[derive(Clone, Copy, Debug, PartialEq, Eq)]
@@ -16,17 +16,19 @@ impl Slot {
     /// What 136 bytes say.
     pub fn of(bytes: &[u8; SLOT]) -> Slot {
         let detail = u32::from_le_bytes([bytes[4], bytes[5], bytes[6], bytes[7]]);
+        let bare = bytes[1..4] == [0; 3] && bytes[8..] == [0; SLOT - 8];
+        // A refused shift keeps its left operand, every other refusal nothing.
+        let operand = Scalar::of_slot(bytes);
         let formed = match bytes[0] {
             0 => detail == 0,
-            1..=8 => detail == 0,
-            9 | 10 => true,
-            11 => detail < 128,
+            1..=8 => bare && detail == 0,
+            9 | 10 => operand.is_some(),
+            11 => bare && detail < 128,
             _ => false,
         };
-        match (formed, Refusal::new(bytes[0], detail)) {
+        match (formed, Refusal::new(bytes[0], detail, operand)) {
             (false, _) => Slot::Malformed,
             (true, None) => Slot::of_value(bytes),
-            (true, Some(_)) if bytes[1..4] != [0; 3] || bytes[8..] != [0; SLOT - 8] => Slot::Malformed,
             (true, Some(refusal)) => Slot::Refused(refusal),
         }
     }
@@ -52,12 +54,21 @@ impl Slot {
             _ => None,
         }
     }
+
+    /// The components in use: a value's, or the one of the operand that a refused shift keeps.
+    pub fn components(&self) -> Vec<u64> {
+        match self {
+            Slot::Value(value) => value.components().to_vec(),
+            Slot::Refused(refusal) => refusal.operand().map(Scalar::bits).into_iter().collect(),
+            Slot::Malformed => vec![],
+        }
+    }
 }
 
 /// A sheet with its results.
 ///
 /// ```
-/// use booth::{Expr, Refusal, Sheet, Slot, Stage, Value};
+/// use booth::{Expr, Refusal, Scalar, Sheet, Slot, Stage, Value};
 ///
 /// let mut builder = Sheet::builder();
 /// let cell = builder.setting(5u32);
@@ -65,7 +76,8 @@ impl Slot {
 /// let mut results = builder.build()?.fold()?;
 /// assert_eq!(results.slot(1), Some(Slot::Value(Value::from(32u32))));
 /// assert_eq!(results.set(0, 32u32)?, [1], "the entries that depend on entry 0");
-/// assert_eq!(results.slot(1), Some(Slot::Refused(Refusal::ShlOverflow { count: 32 })));
+/// let lost = Refusal::ShlOverflow { count: 32, operand: Scalar::from(1u32) };
+/// assert_eq!(results.slot(1), Some(Slot::Refused(lost)));
 /// # Ok::<(), Refusal>(())
 /// ```
 #[derive(Clone, Debug, PartialEq, Eq)]
@@ -202,16 +214,16 @@ impl<'a> Step<'a> {
     }
 }
 
-/// The listing: `sheet` and the number of entries, then for each entry its number, status, type, columns, rows, detail and components.
+/// The listing: `sheet` and the number of entries, then for each entry its number, status, type, columns, rows, detail and the components in
+/// use, which are none where the slot is malformed.
 impl fmt::Display for Results {
     fn fmt(&self, f: &mut fmt::Formatter) -> fmt::Result {
         writeln!(f, "sheet {}", self.sheet.entries().len())?;
         for (entry, bytes) in self.slots.chunks_exact(SLOT).enumerate() {
             let detail = u32::from_le_bytes([bytes[4], bytes[5], bytes[6], bytes[7]]);
             write!(f, "{entry} {} {} {} {} {detail}", bytes[0], bytes[1], bytes[2], bytes[3])?;
-            if let Some(Slot::Value(value)) = self.slot(entry as u32) {
-                value.components().iter().try_for_each(|bits| write!(f, " {bits:016x}"))?;
-            }
+            let components = self.slot(entry as u32).map_or_else(Vec::new, |slot| slot.components());
+            components.iter().try_for_each(|bits| write!(f, " {bits:016x}"))?;
             writeln!(f)?;
         }
         Ok(())

@@ -91,7 +91,7 @@ impl Value {
         binary(Binary::Add, Stage::Exec, &Value::abstract_float(x), &Value::f16(0x8000))
     }
 
-    fn lone(ty: Type, bits: u64) -> Value {
+    pub(crate) fn lone(ty: Type, bits: u64) -> Value {
         let mut components = [0; 16];
         components[0] = bits;
         Value { ty, columns: 1, rows: 1, components }

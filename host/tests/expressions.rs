@@ -1,5 +1,5 @@
 //! Expressions as WGSL writes them, sheets put together entry by entry, and entries explained node by node.
-use booth::{Binary, Entry, Expr, Kind, Refusal, Results, Sheet, Slot, Stage, Step, Type, Unary, Value, SLOT};
+use booth::{Binary, Entry, Expr, Kind, Refusal, Results, Scalar, Sheet, Slot, Stage, Step, Type, Unary, Value, SLOT};
 
 use Binary::*;
 use Unary::{BitNot, Neg, Not};
@@ -311,7 +311,7 @@ fn a_refusal_is_explained() {
     let step = |entry| results.explain(entry).unwrap();
     assert_eq!(nodes(&step(0)), [node(5, "5u", value(32))], "what its slot holds, not what it says");
 
-    let lost = Slot::Refused(Refusal::ShlOverflow { count: 32 });
+    let lost = Slot::Refused(Refusal::ShlOverflow { count: 32, operand: Scalar::from(1u32) });
     let mask = [node(22, "1u << #0", lost), node(24, "1u", value(1)), node(36, "#0", value(32))];
     assert_eq!(nodes(&step(1)), mask);
     assert_eq!(step(1).cause().map(|cause| cause.place), Some(22));
@@ -320,6 +320,44 @@ fn a_refusal_is_explained() {
     let last = [node(43, "#1 - 1u", from), node(45, "#1", from), node(47, "1u", value(1))];
     assert_eq!(nodes(&step(2)), last);
     assert_eq!(step(2).cause().map(|cause| cause.place), Some(45));
+}
+
+/// The slot of a refused shift is what its entry gives only with the operand that it had: with another, or another count, it is not.
+#[test]
+fn a_refused_shift_fits_with_its_operand() {
+    let mut results = example().fold().unwrap();
+    assert_eq!(results.set(0, 32u32), Ok(vec![1, 2]));
+    assert_eq!([0, 1, 2].map(|entry| results.fits(entry)), [Some(true); 3]);
+    // The detail's first byte, the operand's type, its first byte.
+    for (place, byte) in [(4, 33), (1, 3), (8, 2)] {
+        let mut bytes = results.bytes().to_vec();
+        bytes[SLOT + place] = byte;
+        let changed = Results::of(example(), bytes).unwrap();
+        assert!(matches!(changed.slot(1), Some(Slot::Refused(_))), "well formed");
+        assert_eq!([0, 1, 2].map(|entry| changed.fits(entry)), [Some(true), Some(false), Some(true)]);
+    }
+}
+
+/// A refused shift's slot holds an operand and is none: who names it has no value.
+#[test]
+fn a_refused_shift_is_no_operand() {
+    let mut bytes = example().fold().unwrap().bytes().to_vec();
+    bytes[SLOT..SLOT + 9].copy_from_slice(&[9, 4, 1, 1, 32, 0, 0, 0, 1]);
+    let mut results = Results::of(example(), bytes).unwrap();
+    assert_eq!(results.slot(1), Some(Slot::Refused(Refusal::ShlOverflow { count: 32, operand: 1u32.into() })));
+    let from = Slot::Refused(Refusal::FromEntry { entry: 1 });
+    let last = [node(43, "#1 - 1u", from), node(45, "#1", from), node(47, "1u", value(1))];
+    assert_eq!(nodes(&results.explain(2).unwrap()), last);
+
+    // So it is to the library: the entry stands beside the change and names the slot as it is.
+    let mut builder = Sheet::builder();
+    let cell = builder.setting(5u32);
+    let lost = builder.entry(Stage::Const, Expr::from(1u32) << 32u32.into());
+    builder.entry(Stage::Override, lost + cell);
+    results = builder.build().unwrap().fold().unwrap();
+    assert_eq!(results.slot(2), Some(from));
+    assert_eq!(results.set(0, 6u32), Ok(vec![2]));
+    assert_eq!(results.slot(2), Some(from));
 }
 
 /// Of two operands that refuse, the left one is the cause, and both are worked out.

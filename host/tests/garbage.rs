@@ -1,4 +1,4 @@
-//! Random bytes: no call ends in a panic, and a refused call has written nothing.
+//! Random bytes: no call ends in a panic, and a refused call has written nothing, or a refused shift's slot.
 #[path = "common/dice.rs"]
 mod dice;
 
@@ -32,7 +32,8 @@ fn operands() {
         let (op, stage) = (dice.below(21) as u8, dice.below(4) as u8);
         let (left, right) = (operand(&mut dice), operand(&mut dice));
         let mut slot = [0x5a; SLOT];
-        if refused(raw_binary(op, stage, &left, &right, &mut slot)) {
+        let answer = raw_binary(op, stage, &left, &right, &mut slot);
+        if refused(answer) && !matches!(answer >> 32, 9 | 10) {
             assert_eq!(slot, [0x5a; SLOT]);
         }
         slot = [0x5a; SLOT];
@@ -40,6 +41,49 @@ fn operands() {
             assert_eq!(slot, [0x5a; SLOT]);
         }
     }
+}
+
+/// A scalar or a vector as the boundary takes it.
+fn vector(ty: u8, components: &[u64]) -> Vec<u8> {
+    let bytes = components.iter().flat_map(|bits| bits.to_le_bytes());
+    [ty, 1, components.len() as u8].into_iter().chain(bytes).collect()
+}
+
+/// Whether a shift has an answer in Const and Override, by document 01's rule over whole numbers.
+fn has_room(op: u8, ty: u8, left: u64, count: u64) -> bool {
+    let (number, range) = match ty {
+        1 => (i128::from(left as i64), i64::MIN.into()..=i64::MAX.into()),
+        3 => (i128::from(left as u32 as i32), i32::MIN.into()..=i32::MAX.into()),
+        _ => (i128::from(left), 0..=i128::from(u32::MAX)),
+    };
+    (ty == 1 || count < 32) && (op == 18 || range.contains(&(number << count.min(64))))
+}
+
+/// Shifts of integers: the slot of a refused one has the operand and the count of the first component that has no room, and nothing else.
+#[test]
+fn shifts() {
+    let mut dice = Dice(0x0bad_cafe_0bad_cafe);
+    let mut refusals = [0; 2];
+    for _ in 0..50_000 {
+        let (op, ty, rows) = (dice.of(&[17u8, 18]), dice.of(&[1, 3, 4]), 1 + dice.below(4));
+        let width = if ty == 1 { 64 } else { 32 };
+        let lefts: Vec<u64> =
+            (0..rows).map(|_| dice.roll() >> (64 - width + dice.below(2) * dice.below(width))).collect();
+        let counts: Vec<u64> = (0..rows).map(|_| dice.below(70) as u64 >> dice.below(6)).collect();
+        let (mut slot, mut expected) = ([0x5a; SLOT], [0; SLOT]);
+        let answer = raw_binary(op, dice.below(2) as u8, &vector(ty, &lefts), &vector(4, &counts), &mut slot);
+        match lefts.into_iter().zip(counts).find(|(left, count)| !has_room(op, ty, *left, *count)) {
+            None => assert_eq!(answer, 0),
+            Some((left, count)) => {
+                let status = op - 8;
+                expected[..5].copy_from_slice(&[status, ty, 1, 1, count as u8]);
+                expected[8..16].copy_from_slice(&left.to_le_bytes());
+                assert_eq!((answer, slot), (u64::from(status) << 32 | count, expected));
+                refusals[usize::from(status - 9)] += 1;
+            }
+        }
+    }
+    assert!(refusals.iter().all(|count| *count > 3_000), "{refusals:?}");
 }
 
 const SHEET: [u8; 59] = [

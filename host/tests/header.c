@@ -102,8 +102,18 @@ static void state(void) {
     printf("\n");
 }
 
+/* A slot up to the first byte of its first component. */
+static void leaves(const uint8_t *slot) {
+    unsigned k;
+    printf("leaves");
+    for (k = 0; k < 9; k++) {
+        printf(" %02x", slot[k]);
+    }
+    printf("\n");
+}
+
 static void functions(void) {
-    static const uint8_t one[11] = {BOOTH_U32, 1, 1, 1};
+    static const uint8_t one[11] = {BOOTH_U32, 1, 1, 1}, zero[11] = {BOOTH_U32, 1, 1, 0}, count[11] = {BOOTH_U32, 1, 1, 32};
     uint8_t slot[BOOTH_SLOT];
     say("check", sheet_check(sheet, sizeof sheet));
     say("fresh", sheet_fresh(sheet, sizeof sheet, results, sizeof results));
@@ -121,6 +131,11 @@ static void functions(void) {
     say("sum", wgsl_binary(BOOTH_ADD, BOOTH_CONST, one, sizeof one, one, sizeof one, slot, sizeof slot));
     printf("which is %u\n", slot[8]);
     say("not", wgsl_unary(BOOTH_NOT, BOOTH_CONST, one, sizeof one, slot, sizeof slot));
+    memset(slot, 0xaa, sizeof slot);
+    say("quotient", wgsl_binary(BOOTH_DIV, BOOTH_CONST, one, sizeof one, zero, sizeof zero, slot, sizeof slot));
+    leaves(slot);
+    say("shift", wgsl_binary(BOOTH_SHL, BOOTH_CONST, one, sizeof one, count, sizeof count, slot, sizeof slot));
+    leaves(slot);
 }
 
 int main(void) {

@@ -113,7 +113,9 @@ fn the_header_works() {
          a sheet cut short: 22 58\nmarks too short: 30 0\nmarks too long: 30 0\nno setting: 31 0\nstatuses 0 0 0, marks {unmarked}\n\
          marks: 0 2\nstatuses 0 9 11, marks {marked}\n\
          change: 0 2\nstatuses 0 0 0, marks {marked}\n\
-         sum: 0 0\nwhich is 2\nnot: 1 0\n"
+         sum: 0 0\nwhich is 2\nnot: 1 0\n\
+         quotient: 7 0\nleaves aa aa aa aa aa aa aa aa aa\n\
+         shift: 9 32\nleaves 09 04 01 01 20 00 00 00 01\n"
     );
     assert_eq!(ran(&built("tests/header.c", "header"), &[]), (Some(0), said, String::new()));
 }
@@ -169,7 +171,7 @@ fn the_example_works() {
 
     let fresh = "entry 0: ok 5\nentry 1: ok 32\nentry 2: ok 31\n".to_owned();
     let changed =
-        "changed entry 0; dependents: 2; worked: 0 1 2\nentry 0: ok 32\nentry 1: ShlOverflow 32\nentry 2: FromEntry 1\n";
+        "changed entry 0; dependents: 2; worked: 0 1 2\nentry 0: ok 32\nentry 1: ShlOverflow 32, operand 1\nentry 2: FromEntry 1\n";
     assert_eq!(ran(&program, &[example]), (Some(0), fresh.clone(), String::new()));
     assert_eq!(ran(&program, &[example, "32"]), (Some(0), fresh.clone() + changed, String::new()));
     let said = "example: the change is refused: BadValue (26), detail 0\n";

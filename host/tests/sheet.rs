@@ -1,5 +1,5 @@
 //! Sheets: the worked example, the refusals of a sheet with their places, and the order of a change's checks.
-use booth::{change, check, fresh, Refusal, Sheet, Slot, Type, Value, SLOT};
+use booth::{change, check, fresh, Refusal, Scalar, Sheet, Slot, Type, Value, SLOT};
 
 const SHEET: [u8; 59] = [
     0xd5, 0x17, 3, 12, 0, 1, 4, 1, 1, 5, 0, 0, 0, 0, 0, 0, 0, //
@@ -18,7 +18,12 @@ fn the_example() {
     assert_eq!(results.slot(3), None);
     assert_eq!(results.slot(u32::MAX), None);
     assert_eq!(results.set(0, Value::from(32u32)), Ok(vec![1, 2]));
-    assert_eq!(results.to_string(), "sheet 3\n0 0 4 1 1 0 0000000000000020\n1 9 0 0 0 32\n2 11 0 0 0 1\n");
+    assert_eq!(
+        results.to_string(),
+        "sheet 3\n0 0 4 1 1 0 0000000000000020\n1 9 4 1 1 32 0000000000000001\n2 11 0 0 0 1\n"
+    );
+    let lost = Refusal::ShlOverflow { count: 32, operand: Scalar::from(1u32) };
+    assert_eq!(results.slot(1), Some(Slot::Refused(lost)));
     assert_eq!(results.slot(2), Some(Slot::Refused(Refusal::FromEntry { entry: 1 })));
     assert_eq!(results.set(0, Value::from(5u32)), Ok(vec![1, 2]));
     assert_eq!(results, Sheet::new(SHEET.to_vec()).unwrap().fold().unwrap());

@@ -23,7 +23,7 @@ use denote.Enum.Declared.{tagOf}
 use Rattle.value.proofs.Scalar.{the-type}
 use Rattle.value.specs.declared.Scalar.{Scalar}
 use Rattle.value.specs.declared.Scalar.the-variants.{Bool as bool, AbstractInt, AbstractFloat, I32, U32, F32, F16}
-use Rattle.value.specs.Answer.{Result, value, binary, strict}
+use Rattle.value.specs.Answer.{Result, binary, strict}
 use Rattle.value.specs.declared.ShaderStage.{ShaderStage}
 use Rattle.value.specs.Pattern.{pick}
 use Rattle.bitwise.specs.Shift.{byScalar, floorSigned, floorUnsigned, limited, reduced, shiftBy, shlExact, shlWrapped, shrExact, shrOverflow, shrReduced, wholeShl, signedShl, unsignedShl}
@@ -50,12 +50,13 @@ either-way true a = refl
 either-way false a = refl
 
 -- a count below the width is itself modulo the width, so that one floor serves every stage
-module _ {X : Type 0} (w : Width) (floor : ℕ → X → Result) (n : ℕ) (x : X) where
-  within : (t : Bool) → leb (bits w) n ≡ t → pick t (shrOverflow n) (floor (reduced w n) x) ≡ pick t (shrOverflow n) (floor n x)
+module _ {X : Type 0} (w : Width) (floor : (X → Scalar) → ℕ → X → Result) (make : X → Scalar) (n : ℕ) (x : X) where
+  within : (t : Bool) → leb (bits w) n ≡ t → pick t (shrOverflow n (make x)) (floor make (reduced w n) x) ≡ pick t (shrOverflow n (make x)) (floor make n x)
   within true e = refl
-  within false e = ap (λ (k : ℕ). floor k x) (mod-eq-of-lt (leb-false (bits w) n e))
+  within false e = ap (λ (k : ℕ). floor make k x) (mod-eq-of-lt (leb-false (bits w) n e))
 
-  pub limited-floor : (t : Bool) {a : Result} → a ≡ pick (t && leb (bits w) n) (shrOverflow n) (floor (reduced w n) x) → a ≡ pick t (limited w floor n x) (floor (reduced w n) x)
+  pub limited-floor : (t : Bool) {a : Result} → a ≡ pick (t && leb (bits w) n) (shrOverflow n (make x)) (floor make (reduced w n) x)
+      → a ≡ pick t (limited w floor make n x) (floor make (reduced w n) x)
   limited-floor true e = e ∙ within (leb (bits w) n) refl
   limited-floor false e = e
 
@@ -72,7 +73,7 @@ pub no-floor : (t : Bool) (l : Scalar) (n : ℕ) → OneOf (0 ∷ 2 ∷ 5 ∷ 6 
 no-floor t l n o =
     either-way t binary
     ∙ ap₂ (pick t)
-    (no-integer binary (floorSigned AbstractInt n) (limited w32 (floorSigned I32) n) (limited w32 (floorUnsigned U32) n) l o)
+    (no-integer binary (floorSigned AbstractInt n) (limited w32 floorSigned I32 n) (limited w32 floorUnsigned U32 n) l o)
     (no-integer binary (floorSigned AbstractInt n) (floorSigned I32 (reduced w32 n)) (floorUnsigned U32 (reduced w32 n)) l o)
 
 abbrev shifted : ℕ → ℤ → Signed
@@ -80,16 +81,17 @@ shifted n x = pick (shlOver w32 x n) I.Over (I.Value (x *ℤ pos (2 ^ n)))
 
 -- a left shift's answer from the product that the callee gave
 module _ (n : ℕ) {r : Result} where
-  pub whole-answer : (x : ℤ) {v : Whole} → SFits w64 x → r ≡ wholeShl v n → v ≡ wholeOf (toZ w64 (ofZ w64 x) *ℤ pos (2 ^ n)) → r ≡ shlExact (AbstractInt x) n
+  pub whole-answer : (x : ℤ) {v : Whole} → SFits w64 x → r ≡ wholeShl (AbstractInt x) v n → v ≡ wholeOf (toZ w64 (ofZ w64 x) *ℤ pos (2 ^ n)) → r ≡ shlExact (AbstractInt x) n
   whole-answer x f e q =
-      e ∙ ap (λ (v : Whole). wholeShl v n) (q ∙ ap (λ (z : ℤ). wholeOf (z *ℤ pos (2 ^ n))) (toZ-ofZ w64 x f))
-      ∙ of-picked (λ (v : Whole). wholeShl v n) (inSigned w64 (x *ℤ pos (2 ^ n))) (W.Value (x *ℤ pos (2 ^ n))) W.Over
+      e ∙ ap (λ (v : Whole). wholeShl (AbstractInt x) v n) (q ∙ ap (λ (z : ℤ). wholeOf (z *ℤ pos (2 ^ n))) (toZ-ofZ w64 x f))
+      ∙ of-picked (λ (v : Whole). wholeShl (AbstractInt x) v n) (inSigned w64 (x *ℤ pos (2 ^ n))) (W.Value (x *ℤ pos (2 ^ n))) W.Over
 
-  pub signed-answer : (x : ℤ) {v : Signed} → SFits w32 x → r ≡ signedShl v n → v ≡ shifted n (toZ w32 (ofZ w32 x)) → r ≡ shlExact (I32 x) n
+  pub signed-answer : (x : ℤ) {v : Signed} → SFits w32 x → r ≡ signedShl (I32 x) v n → v ≡ shifted n (toZ w32 (ofZ w32 x)) → r ≡ shlExact (I32 x) n
   signed-answer x f e q =
-      e ∙ ap (λ (v : Signed). signedShl v n) (q ∙ ap (shifted n) (toZ-ofZ w32 x f))
-      ∙ of-picked (λ (v : Signed). signedShl v n) (shlOver w32 x n) I.Over (I.Value (x *ℤ pos (2 ^ n)))
+      e ∙ ap (λ (v : Signed). signedShl (I32 x) v n) (q ∙ ap (shifted n) (toZ-ofZ w32 x f))
+      ∙ of-picked (λ (v : Signed). signedShl (I32 x) v n) (shlOver w32 x n) I.Over (I.Value (x *ℤ pos (2 ^ n)))
 
-  pub unsigned-answer : (x : ℕ) {v : Unsigned} → r ≡ unsignedShl v n → v ≡ pick (shlOverU w32 x n) U.Over (U.Value (x * 2 ^ n)) → r ≡ shlExact (U32 x) n
+  pub unsigned-answer : (x : ℕ) {v : Unsigned} → r ≡ unsignedShl (U32 x) v n → v ≡ pick (shlOverU w32 x n) U.Over (U.Value (x * 2 ^ n)) → r ≡ shlExact (U32 x) n
   unsigned-answer x e q =
-      e ∙ ap (λ (v : Unsigned). unsignedShl v n) q ∙ of-picked (λ (v : Unsigned). unsignedShl v n) (shlOverU w32 x n) U.Over (U.Value (x * 2 ^ n))
+      e ∙ ap (λ (v : Unsigned). unsignedShl (U32 x) v n) q
+      ∙ of-picked (λ (v : Unsigned). unsignedShl (U32 x) v n) (shlOverU w32 x n) U.Over (U.Value (x * 2 ^ n))

@@ -22,14 +22,14 @@ bitwise-witnesses =
     ∷ shlOf Const (I32 (pos 1)) (Value (U32 31)) ∷ shlOf Override (U32 0) (Value (U32 32)) ∷ shlOf Exec (U32 3) (Value (U32 33)) ∷ shlOf Exec (U32 3) Nothing
     -- `<<` of an AbstractInt that takes its count modulo 64, or refuses 0 shifted far
     ∷ shlOf Exec (AbstractInt (pos 3)) (Value (U32 64)) ∷ shlOf Const (AbstractInt (pos 0)) (Value (U32 100))
-    -- `>>` that truncates; that takes a count of 32 modulo 32 in Const; that refuses it in Exec
-    ∷ shrOf Const (I32 (negsuc 4)) (Value (U32 1)) ∷ shrOf Const (U32 8) (Value (U32 32)) ∷ shrOf Exec (U32 8) (Value (U32 33)) ∷ []
+    -- `>>` that truncates; that takes a count of 32 modulo 32 in Const; that carries the count, or the operand's size; that refuses it in Exec
+    ∷ shrOf Const (I32 (negsuc 4)) (Value (U32 1)) ∷ shrOf Const (U32 8) (Value (U32 32)) ∷ shrOf Override (I32 (negsuc 6)) (Value (U32 40)) ∷ shrOf Exec (U32 8) (Value (U32 33)) ∷ []
 
 pub bitwise-answers : bitwise-witnesses ≡ (
     value (U32 7) ∷ value (U32 1) ∷ value (U32 6) ∷ binary
     ∷ value (I32 (negsuc 0)) ∷ value (I32 (negsuc 5)) ∷ unary
-    ∷ shlOverflow 31 ∷ shlOverflow 32 ∷ value (U32 6) ∷ binary
+    ∷ shlOverflow 31 (I32 (pos 1)) ∷ shlOverflow 32 (U32 0) ∷ value (U32 6) ∷ binary
     ∷ value (AbstractInt (pos 0)) ∷ value (AbstractInt (pos 0))
-    ∷ value (I32 (negsuc 2)) ∷ shrOverflow 32 ∷ value (U32 4) ∷ [])
+    ∷ value (I32 (negsuc 2)) ∷ shrOverflow 32 (U32 8) ∷ shrOverflow 40 (I32 (negsuc 6)) ∷ value (U32 4) ∷ [])
 unfolding bitwise-witnesses wrapU wrapS
 bitwise-answers = refl

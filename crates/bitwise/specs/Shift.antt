@@ -21,27 +21,27 @@ use Rattle.value.specs.declared.ShaderStage.{ShaderStage}
 use Rattle.value.specs.declared.Found.{Found}
 use Rattle.value.specs.declared.Found.the-variants.{Value, Nothing}
 use Rattle.bitwise.specs.Bits.{onInteger}
-use Rattle.value.specs.Answer.{Result, value, refused, refusal, binary, strict}
+use Rattle.value.specs.Answer.{Result, value, shiftRefused, binary, strict}
 use Rattle.value.specs.Refusals as No
 
--- 9 ShlOverflow and 10 ShrOverflow, with the full count
-abbrev pub shlOverflow : ℕ → Result
-shlOverflow n = refused (refusal No.ShlOverflow n)
+-- 9 ShlOverflow and 10 ShrOverflow, with the full count and the left operand
+abbrev pub shlOverflow : ℕ → Scalar → Result
+shlOverflow n l = shiftRefused No.ShlOverflow n l
 
-abbrev pub shrOverflow : ℕ → Result
-shrOverflow n = refused (refusal No.ShrOverflow n)
+abbrev pub shrOverflow : ℕ → Scalar → Result
+shrOverflow n l = shiftRefused No.ShrOverflow n l
 
 -- "Left in Const and Override: ShlOverflow exactly if a 32-bit operand meets a count above 31 or l times 2^count is outside its type;
 -- otherwise that product." The rule of a type of width w, whose scalars `make` makes
 abbrev pub exactSigned : Width → (ℤ → Scalar) → ℕ → ℤ → Result
-exactSigned w make n x = pick (shlOver w x n) (shlOverflow n) (value (make (x *ℤ pos (2 ^ n))))
+exactSigned w make n x = pick (shlOver w x n) (shlOverflow n (make x)) (value (make (x *ℤ pos (2 ^ n))))
 
 abbrev pub exactUnsigned : Width → (ℕ → Scalar) → ℕ → ℕ → Result
-exactUnsigned w make n x = pick (shlOverU w x n) (shlOverflow n) (value (make (x * 2 ^ n)))
+exactUnsigned w make n x = pick (shlOverU w x n) (shlOverflow n (make x)) (value (make (x * 2 ^ n)))
 
 -- AbstractInt has no limit on its count
 abbrev pub exactWhole : ℕ → ℤ → Result
-exactWhole n x = pick (inSigned w64 (x *ℤ pos (2 ^ n))) (value (AbstractInt (x *ℤ pos (2 ^ n)))) (shlOverflow n)
+exactWhole n x = pick (inSigned w64 (x *ℤ pos (2 ^ n))) (value (AbstractInt (x *ℤ pos (2 ^ n)))) (shlOverflow n (AbstractInt x))
 
 abbrev pub shlExact : Scalar → ℕ → Result
 shlExact l n = onInteger binary (exactWhole n) (exactSigned w32 I32 n) (exactUnsigned w32 U32 n) l
@@ -69,11 +69,11 @@ abbrev pub floorUnsigned : (ℕ → Scalar) → ℕ → ℕ → Result
 floorUnsigned make n x = value (make (x / 2 ^ n))
 
 -- "32-bit counts above 31 give ShrOverflow in Const and Override": those of the width or more
-abbrev pub limited : {X : Type 0} → Width → (ℕ → X → Result) → ℕ → X → Result
-limited w floor n x = pick (leb (bits w) n) (shrOverflow n) (floor n x)
+abbrev pub limited : {X : Type 0} → Width → ((X → Scalar) → ℕ → X → Result) → (X → Scalar) → ℕ → X → Result
+limited w floor make n x = pick (leb (bits w) n) (shrOverflow n (make x)) (floor make n x)
 
 abbrev pub shrExact : Scalar → ℕ → Result
-shrExact l n = onInteger binary (floorSigned AbstractInt n) (limited w32 (floorSigned I32) n) (limited w32 (floorUnsigned U32) n) l
+shrExact l n = onInteger binary (floorSigned AbstractInt n) (limited w32 floorSigned I32 n) (limited w32 floorUnsigned U32 n) l
 
 -- "and are taken modulo 32 in Exec"
 abbrev pub shrReduced : Scalar → ℕ → Result
@@ -109,15 +109,15 @@ shlOf stage l count = byCount count (shlBy stage l)
 abbrev pub shrOf : ShaderStage → Scalar → Found → Result
 shrOf stage l count = byCount count (shrBy stage l)
 
--- what a left shift's product or its refusal answers
-abbrev pub wholeShl : Whole → ℕ → Result
-wholeShl (W.Value x) n = value (AbstractInt x)
-wholeShl W.Over n = shlOverflow n
+-- what the product of a left shift of l, or that it is over, answers
+abbrev pub wholeShl : Scalar → Whole → ℕ → Result
+wholeShl l (W.Value x) n = value (AbstractInt x)
+wholeShl l W.Over n = shlOverflow n l
 
-abbrev pub signedShl : Signed → ℕ → Result
-signedShl (I.Value x) n = value (I32 x)
-signedShl I.Over n = shlOverflow n
+abbrev pub signedShl : Scalar → Signed → ℕ → Result
+signedShl l (I.Value x) n = value (I32 x)
+signedShl l I.Over n = shlOverflow n l
 
-abbrev pub unsignedShl : Unsigned → ℕ → Result
-unsignedShl (U.Value x) n = value (U32 x)
-unsignedShl U.Over n = shlOverflow n
+abbrev pub unsignedShl : Scalar → Unsigned → ℕ → Result
+unsignedShl l (U.Value x) n = value (U32 x)
+unsignedShl l U.Over n = shlOverflow n l

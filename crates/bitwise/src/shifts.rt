@@ -16,44 +16,44 @@ ghost use Rattle.bitwise.specs.Shift.{byCount, shiftBy, shlExact, shlOf,
 // The width of I32 and of U32.
 const WIDTH: u32 = 32;
 
-// The answer of an AbstractInt's left shift by n.
-fn whole_shl(w: Whole, n: u32) -> Answer
-    ensures { λ a. ⌜ answerOf a ≡ wholeShl w n ⌝ }
+// The answer of the left shift of l, an AbstractInt, by n.
+fn whole_shl(l: Scalar, w: Whole, n: u32) -> Answer
+    ensures { λ a. ⌜ answerOf a ≡ wholeShl l w n ⌝ }
 {
     match w {
         Whole::Value(x) => Answer::Value(Scalar::AbstractInt(x)),
-        Whole::Over => Answer::ShlOverflow(n),
+        Whole::Over => Answer::ShlOverflow(n, l),
     }
 }
 
-// The answer of an I32's left shift by n.
-fn signed_shl(w: Signed, n: u32) -> Answer
-    ensures { λ a. ⌜ answerOf a ≡ signedShl w n ⌝ }
+// The answer of the left shift of l, an I32, by n.
+fn signed_shl(l: Scalar, w: Signed, n: u32) -> Answer
+    ensures { λ a. ⌜ answerOf a ≡ signedShl l w n ⌝ }
 {
     match w {
         Signed::Value(x) => Answer::Value(Scalar::I32(x)),
-        Signed::Over => Answer::ShlOverflow(n),
+        Signed::Over => Answer::ShlOverflow(n, l),
     }
 }
 
-// The answer of a U32's left shift by n.
-fn unsigned_shl(w: Unsigned, n: u32) -> Answer
-    ensures { λ a. ⌜ answerOf a ≡ unsignedShl w n ⌝ }
+// The answer of the left shift of l, a U32, by n.
+fn unsigned_shl(l: Scalar, w: Unsigned, n: u32) -> Answer
+    ensures { λ a. ⌜ answerOf a ≡ unsignedShl l w n ⌝ }
 {
     match w {
         Unsigned::Value(x) => Answer::Value(Scalar::U32(x)),
-        Unsigned::Over => Answer::ShlOverflow(n),
+        Unsigned::Over => Answer::ShlOverflow(n, l),
     }
 }
 
-// Left in Const and Override: the exact product, or ShlOverflow.
+// Left in Const and Override: the exact product, or ShlOverflow with the count and l.
 fn shl_exact(l: Scalar, n: u32) -> Answer
     ensures { λ a. ⌜ answerOf a ≡ shlExact l n ⌝ }
 {
     match l {
-        Scalar::AbstractInt(x) => whole_shl(shift::shl_i64(x, n), n),
-        Scalar::I32(x) => signed_shl(shift::shl_i32(x, n), n),
-        Scalar::U32(x) => unsigned_shl(shift::shl_u32(x, n), n),
+        Scalar::AbstractInt(x) => whole_shl(l, shift::shl_i64(x, n), n),
+        Scalar::I32(x) => signed_shl(l, shift::shl_i32(x, n), n),
+        Scalar::U32(x) => unsigned_shl(l, shift::shl_u32(x, n), n),
         _ => Answer::Binary,
     }
 }
@@ -80,13 +80,13 @@ fn shr_floor(strict: bool, l: Scalar, n: u32) -> Answer
         Scalar::AbstractInt(x) => { Answer::Value(Scalar::AbstractInt(shift::shr_i64(x, n))) }
         Scalar::I32(x) => {
             if strict & (WIDTH <= n) {
-                return Answer::ShrOverflow(n);
+                return Answer::ShrOverflow(n, l);
             }
             Answer::Value(Scalar::I32(shift::shr_i32(x, n)))
         }
         Scalar::U32(x) => {
             if strict & (WIDTH <= n) {
-                return Answer::ShrOverflow(n);
+                return Answer::ShrOverflow(n, l);
             }
             Answer::Value(Scalar::U32(shift::shr_u32(x, n)))
         }

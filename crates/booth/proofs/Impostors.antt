@@ -3,11 +3,13 @@ use mathlib.Core.Path.{_≡_, refl}
 use mathlib.Core.List.{List, [], _∷_, map}
 use Prim.Native.Nat.{ℕ}
 use lib.ListN.{replicate}
-use Rattle.low.specs.Bytes.{upTo}
+use Rattle.low.specs.Bytes.{upTo, lows, eights}
 use Rattle.low.specs.Read.{must, thenRead, readAs}
 use Rattle.operand.specs.declared.Instance.{Instance}
-use Rattle.operand.specs.Outcome.{refusedWith, valueOf}
+use Rattle.operand.specs.Operand.{aScalar}
+use Rattle.operand.specs.Outcome.{refusedWith, refusedOn, valueOf}
 use Rattle.dispatch.specs.Meaning.{unaryMeaning, binaryMeaning}
+use Rattle.slot.specs.Slot.{bytesOf}
 use Rattle.sheet.specs.Tree.{names, namesOf}
 use Rattle.sheet.specs.Record.{readHead, readRecord}
 use Rattle.sheet.specs.Sheet.{readRecords, readFrom, readSheet, countedOf}
@@ -57,7 +59,7 @@ unfolding must readAs readRecords readFrom readSheet entryAt isSetting faultOf m
 marks-kept = refl
 
 -- a slot of 135 or 137 bytes is not taken, whatever the operator answers: a value, or a refusal of its own
-pub slot-sizes : (v : Instance) → map (λ (n : ℕ). map (directAnswer (replicate n 7)) (valueOf v ∷ refusedWith 9 32 ∷ [])) (135 ∷ 137 ∷ [])
+pub slot-sizes : (v : Instance) → map (λ (n : ℕ). map (directAnswer (replicate n 7)) (valueOf v ∷ refusedOn 9 32 v ∷ [])) (135 ∷ 137 ∷ [])
     ≡ (packedAnswer 30 0 ∷ packedAnswer 30 0 ∷ []) ∷ (packedAnswer 30 0 ∷ packedAnswer 30 0 ∷ []) ∷ []
 unfolding intoSlot directAnswer
 slot-sizes v = refl
@@ -67,10 +69,15 @@ pub size-last : map (λ (n : ℕ). directAnswer [] (refusedWith n 0)) (25 ∷ 23
 unfolding intoSlot directAnswer
 size-last = refl
 
--- the slot does not take a refusal
-pub slot-kept : directBytes (replicate 136 7) (refusedWith 9 32) ≡ replicate 136 7
+-- the slot takes no refusal but those that carry an operand, all of their bytes
+pub slot-kept : map (directBytes (replicate 136 7)) (refusedWith 7 0 ∷ refusedWith 25 0 ∷ []) ≡ replicate 136 7 ∷ replicate 136 7 ∷ []
 unfolding intoSlot directBytes
 slot-kept = refl
+
+pub slot-filled : map (λ (n : ℕ). directBytes (replicate 136 7) (refusedOn n 32 (aScalar 4 1))) (9 ∷ 10 ∷ [])
+    ≡ (9 ∷ 4 ∷ 1 ∷ 1 ∷ 32 ∷ 0 ∷ 0 ∷ 0 ∷ 1 ∷ replicate 127 0) ∷ (10 ∷ 4 ∷ 1 ∷ 1 ∷ 32 ∷ 0 ∷ 0 ∷ 0 ∷ 1 ∷ replicate 127 0) ∷ []
+unfolding intoSlot directBytes bytesOf lows eights
+slot-filled = refl
 
 -- a vector with one component's bytes and a scalar with one byte more are no operands; the U32 0 is one
 pub operand-types : map (λ (b : List ℕ). operandIn b .ty) (

@@ -20,16 +20,20 @@ use Rattle.slot.specs.Slot.{bytesOf, put}
 use Rattle.low.proofs.Parts.{patch-all}
 use Rattle.slot.proofs.Slots.{bytes-long, put-in}
 use Rattle.booth.specs.Answer.{packedAnswer}
-use Rattle.booth.specs.Operand.{callRefused, intoSlot, directAnswer, directBytes}
+use Rattle.booth.specs.Operand.{callRefused, intoSlot, fills, directAnswer, directBytes}
 
 -- ---- as the code's tests leave it
-not-zero : (t : ℕ) → callRefused t ≡ true → eqb t 0 ≡ false
-not-zero t c = ne-eqb t 0 (λ e. false≢true (ap callRefused (sym e) ∙ c))
+-- a refusal of the call fills no slot
+call-empty : (t : ℕ) → callRefused t ≡ true → fills t ≡ false
+call-empty t c = rw (other 0 refl, other 9 refl, other 10 refl)
+  where
+    other : (n : ℕ) → callRefused n ≡ false → eqb t n ≡ false
+    other n q = ne-eqb t n (λ e. false≢true (sym q ∙ ap callRefused (sym e) ∙ c))
 
 module _ (l : List ℕ) (o : Outcome) (r : ℕ) (t : Bool) (q : t ≡ callRefused (o .status)) where
   pub settled-call : t ≡ true → r ≡ packedAnswer (o .status) (o .detail) → (r ≡ directAnswer l o) × (l ≡ directBytes l o)
   unfolding intoSlot directAnswer directBytes
-  settled-call c e = (rw (← q, c) e, rw (← q, c, not-zero (o .status) (sym q ∙ c)))
+  settled-call c e = (rw (← q, c) e, rw (← q, c, call-empty (o .status) (sym q ∙ c)))
 
   module _ (c : t ≡ false) where
     pub settled-wrong-size : (length l ≡ 136 → ⊥) → r ≡ packedAnswer 30 0 → (r ≡ directAnswer l o) × (l ≡ directBytes l o)
@@ -37,9 +41,9 @@ module _ (l : List ℕ) (o : Outcome) (r : ℕ) (t : Bool) (q : t ≡ callRefuse
     settled-wrong-size n e = (rw (← q, c, ne-eqb (length l) 136 n) e, rw (← q, c, ne-eqb (length l) 136 n))
 
     module _ (h : length l ≡ 136) (e : r ≡ packedAnswer (o .status) (o .detail)) where
-      pub settled-refused : (o .status ≡ 0 → ⊥) → (r ≡ directAnswer l o) × (l ≡ directBytes l o)
+      pub settled-refused : fills (o .status) ≡ false → (r ≡ directAnswer l o) × (l ≡ directBytes l o)
       unfolding intoSlot directAnswer directBytes
-      settled-refused n = (rw (← q, c, eq-eqb (length l) 136 h) e, rw (← q, c, eq-eqb (length l) 136 h, ne-eqb (o .status) 0 n))
+      settled-refused n = (rw (← q, c, eq-eqb (length l) 136 h) e, rw (← q, c, eq-eqb (length l) 136 h, n))
 
       -- all of the slot is replaced
       replaced : put l 0 (bytesOf o) ≡ bytesOf o
@@ -47,9 +51,9 @@ module _ (l : List ℕ) (o : Outcome) (r : ℕ) (t : Bool) (q : t ≡ callRefuse
           let k : 0 < length l / 136 = omega arith in
           put-in l 0 (bytesOf o) k ∙ patch-all l (bytesOf o) (bytes-long o ∙ sym h)
 
-      pub settled-written : (m : List ℕ) → o .status ≡ 0 → m ≡ put l 0 (bytesOf o) → (r ≡ directAnswer l o) × (m ≡ directBytes l o)
+      pub settled-written : (m : List ℕ) → fills (o .status) ≡ true → m ≡ put l 0 (bytesOf o) → (r ≡ directAnswer l o) × (m ≡ directBytes l o)
       unfolding intoSlot directAnswer directBytes
-      settled-written m z p = (rw (← q, c, eq-eqb (length l) 136 h) e, rw (← q, c, eq-eqb (length l) 136 h, eq-eqb (o .status) 0 z) (p ∙ replaced))
+      settled-written m z p = (rw (← q, c, eq-eqb (length l) 136 h) e, rw (← q, c, eq-eqb (length l) 136 h, z) (p ∙ replaced))
 
 -- ---- the order of the checks
 -- an operator's own answers are no refusals of the call

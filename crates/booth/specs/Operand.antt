@@ -6,6 +6,7 @@ use lib.Dec.{eqb}
 use lib.ListN.{length, getD, replicate}
 use Rattle.low.specs.Bytes.{whole, part, numbers}
 use Rattle.types.specs.Types.{knownOf}
+use Rattle.value.specs.Answer.{carries}
 use Rattle.value.specs.Pattern.{pick}
 use Rattle.value.specs.Refusals as No
 use Rattle.operand.specs.declared.Instance.{Instance}
@@ -43,9 +44,12 @@ intoSlot slot o = pick (callRefused (o .status)) o (refuseUnless (eqb (length sl
 unfoldable pub directAnswer : List ℕ → Outcome → ℕ
 directAnswer slot o = packedAnswer (intoSlot slot o .status) (intoSlot slot o .detail)
 
--- the slot is written on success alone
+-- the slot is written on success, and with the refusals 9 and 10, which carry an operand (02 §5)
+abbrev pub fills : ℕ → Bool
+fills status = eqb status 0 || carries status
+
 unfoldable pub directBytes : List ℕ → Outcome → List ℕ
-directBytes slot o = pick (eqb (intoSlot slot o .status) 0) (bytesOf o) slot
+directBytes slot o = pick (fills (intoSlot slot o .status)) (bytesOf o) slot
 
 -- ---- for the contracts of private functions
 -- a scalar by its type and pattern: 11 bytes, a known type, one column and one row

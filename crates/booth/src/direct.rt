@@ -1,4 +1,4 @@
-// The direct calls: operands from bytes, and the value into a slot.
+// The direct calls: operands from bytes, and the answer into a slot.
 use crate::pack;
 use operand::Instance;
 use operand::Outcome;
@@ -6,7 +6,7 @@ use value::refusals;
 ghost use mathlib.Core.Path.{_≡_};
 ghost use Prim.Native.Nat.{_*_, _≤_};
 ghost use Rattle.dispatch.specs.Meaning.{binaryMeaning};
-ghost use Rattle.booth.specs.Operand.{noOperand, operandIn, callRefused, directAnswer, directBytes, scalarIn};
+ghost use Rattle.booth.specs.Operand.{noOperand, operandIn, callRefused, fills, directAnswer, directBytes, scalarIn};
 
 // A scalar by its type and pattern, or other bytes.
 pub(crate) enum One {
@@ -77,7 +77,14 @@ fn call_refused(status: u8) -> bool
         | (status == refusals::BAD_VALUE)
 }
 
-// Answers an outcome, and puts its value into a slot where there is one. A refusal of the call itself stands before that
+// Whether an outcome goes into the slot: a value, or a refusal that carries an operand.
+fn fills(status: u8) -> bool
+    ensures { λ r. ⌜ r ≡ fills status ⌝ }
+{
+    (status == 0) | value::carries(status)
+}
+
+// Answers an outcome, and puts it into a slot where it has a value or an operand. A refusal of the call itself stands before that
 // of the slot's size, and that before what the operator answers.
 pub(crate) fn settle(slot: &mut [u8], o: Outcome) -> u64
     ensures { λ r. ⌜ (r ≡ directAnswer (now (slot .entry)) o) × (now (slot .exit) ≡ directBytes (now (slot .entry)) o) ⌝ }
@@ -89,7 +96,7 @@ pub(crate) fn settle(slot: &mut [u8], o: Outcome) -> u64
     if slot.len() != 136 {
         return pack(refusals::RESULTS_SIZE, 0);
     }
-    if o.status != 0 {
+    if !fills(o.status) {
         return answer;
     }
     slot::put(slot, 0, o);

@@ -31,8 +31,8 @@ fn pack_fold(answer: Counted) -> u64
     }
 }
 
-// A unary operator on an operand's bytes: type, columns, rows, and 8 bytes for each component. The slot takes the value. A scalar
-// goes without a record.
+// A unary operator on an operand's bytes: type, columns, rows, and 8 bytes for each component. The slot takes the value, and of the
+// refusals those that carry an operand. A scalar goes without a record.
 #[no_mangle]
 pub extern "C" fn wgsl_unary(op: u8, stage: u8, operand: &[u8], slot: &mut [u8]) -> u64
     ensures { λ r. ⌜ (r ≡ directAnswer (now (slot .entry)) (unaryMeaning op stage (operandIn (now (operand .entry)))))
@@ -44,7 +44,7 @@ pub extern "C" fn wgsl_unary(op: u8, stage: u8, operand: &[u8], slot: &mut [u8])
     direct::settle(slot, shape::unary_scalar(op, stage, ty, bits))
 }
 
-// A binary operator on the bytes of two operands. The slot takes the value. Two scalars go without records.
+// A binary operator on the bytes of two operands. The slot is as in `wgsl_unary`. Two scalars go without records.
 #[no_mangle]
 pub extern "C" fn wgsl_binary(op: u8, stage: u8, left: &[u8], right: &[u8], slot: &mut [u8]) -> u64
     ensures { λ r. ⌜ (r ≡ directAnswer (now (slot .entry)) (binaryMeaning op stage (operandIn (now (left .entry))) (operandIn (now (right .entry)))))

@@ -2,25 +2,20 @@
 use Prim.Native.Nat.{ℕ}
 use mathlib.Core.Path.{_≡_, refl, ap, _∙_}
 use mathlib.Core.Bool.{Bool, true, false}
-use mathlib.Core.List.{List, [], _∷_}
+use mathlib.Core.List.{List, _∷_}
 use lib.Dec.{eqb}
 use lib.ListN.{getD}
-use types.Run.{OneOf, miss}
-use denote.Enum.Declared.{tagOf}
 use borrow.Author.Tests.{eq-eqb, ne-eqb, eqb-true, eqb-false}
 use Rattle.low.specs.Bytes.{whole, part}
 use Rattle.types.proofs.Choice.{Misses, past-one}
 use Rattle.value.specs.declared.Scalar.{Scalar}
 use Rattle.value.specs.declared.ShaderStage.{ShaderStage}
 use Rattle.value.specs.declared.Found.{Found}
-use Rattle.value.specs.declared.Answer.{Answer}
-use Rattle.value.specs.declared.Answer.the-variants as A
-use Rattle.value.specs.Answer.{Result, answerOf, stageOf}
+use Rattle.value.specs.Answer.{Result, stageOf}
 use Rattle.value.specs.Scalar.{scalarOf}
-use Rattle.value.proofs.Answer.{the-type}
 use Rattle.conversion.specs.Convert.{commonOf}
 use Rattle.bitwise.specs.Bits.{bitNotOf, bitXorOf}
-use Rattle.cases.specs.Scalars.{unaryResults, unaryBy, binaryResults, binaryBy, scalarFound, scalarRead, valueSaid}
+use Rattle.cases.specs.Scalars.{unaryResults, unaryBy, binaryResults, binaryBy, scalarFound, scalarRead}
 use Rattle.cases.specs.Judged.{resultSaid, scalarRight}
 use Rattle.cases.proofs.Records.{number-at}
 
@@ -44,19 +39,6 @@ other-binary stage l r op m h k = go (eqb op 16) refl
 pub scalar-found : (o p : List ℕ) (t b : ℕ) (f : Found) → t ≡ getD o 0 0 → p ≡ part o 4 8 → b ≡ whole (part p 0 8) → f ≡ scalarOf t b → scalarFound f ≡ scalarRead o
 unfolding scalarRead
 scalar-found o p t b f et ep eb ef = ap scalarFound (ef ∙ (λ i. scalarOf (et i) (number-at o 4 p b ep eb i)))
-
--- of an answer that is no value, no value is said
-pub no-value : (a : Answer) (rest : List ℕ) → OneOf (1 ∷ 2 ∷ 3 ∷ 4 ∷ 5 ∷ 6 ∷ 7 ∷ 8 ∷ 9 ∷ []) (tagOf the-type a) → true ≡ valueSaid (answerOf a) rest
-no-value (A.Value s) rest o = absurd (miss (1 ∷ 2 ∷ 3 ∷ 4 ∷ 5 ∷ 6 ∷ 7 ∷ 8 ∷ 9 ∷ []) 0 tt o)
-no-value A.Unary rest o = refl
-no-value A.Binary rest o = refl
-no-value A.AddOverflow rest o = refl
-no-value A.SubOverflow rest o = refl
-no-value A.MulOverflow rest o = refl
-no-value A.DivByZero rest o = refl
-no-value A.RemZeroDiv rest o = refl
-no-value (A.ShlOverflow n) rest o = refl
-no-value (A.ShrOverflow n) rest o = refl
 
 -- ---- the record
 module _ (c : List ℕ) (k op : ℕ) (ek : k ≡ getD c 0 0) (eo : op ≡ getD c 1 0) (p : List ℕ) (ep : p ≡ part c 3 12) (l : Scalar) (el : l ≡ scalarRead p)

@@ -10,7 +10,7 @@ use Rattle.low.specs.Bytes.{lows, whole, part, eights, numbers}
 use Rattle.slot.specs.Slot.{bytesOf, saidBy, slot, each, componentFormed, componentsFormed, valueFormed, blank, formed, wellFormed}
 use Rattle.booth.specs.Operand.{intoSlot, directAnswer, directBytes}
 use Rattle.cases.specs.Record.{componentsIn, instanceIn, secondPlace, answerIn, outcomeIn, askedBy}
-use Rattle.cases.specs.Scalars.{unaryBy, scalarRead}
+use Rattle.cases.specs.Scalars.{unaryBy, binaryBy, scalarRead}
 use Rattle.cases.specs.Judged.{answeredSo, slotRight, conversionOf, roundingRight, same, shapeRight, resultSaid, scalarRight, operatorRight}
 
 -- number and detail are both asked: ShlOverflow by 32 is not one by 0, nor ShrOverflow by 32
@@ -54,6 +54,16 @@ operators-answers = refl
 -- `!` of a Bool, and what is said of it: status, type and pattern
 abbrev negated : ℕ → ℕ → ℕ → List ℕ
 negated status ty bits = 1 ∷ 1 ∷ 0 ∷ (0 ∷ 1 ∷ 1 ∷ 1 ∷ low 1 0 0 0) ++ status ∷ replicate 4 0 ++ (ty ∷ 1 ∷ 1 ∷ 1 ∷ low bits 0 0 0)
+
+-- U32 1 << 32, and the operand that is said to be carried: its type and pattern
+abbrev refusedShift : ℕ → ℕ → List ℕ
+refusedShift ty bits =
+    2 ∷ 17 ∷ 0 ∷ (4 ∷ 1 ∷ 1 ∷ 1 ∷ low 1 0 0 0) ++ (4 ∷ 1 ∷ 1 ∷ 1 ∷ low 32 0 0 0) ++ 9 ∷ 32 ∷ replicate 3 0 ++ (ty ∷ 1 ∷ 1 ∷ 1 ∷ low bits 0 0 0)
+
+-- neither the count nor zeros nor another type is taken for it
+pub carried-answers : map scalarRight (refusedShift 4 1 ∷ refusedShift 4 32 ∷ refusedShift 0 0 ∷ refusedShift 3 1 ∷ []) ≡ true ∷ false ∷ false ∷ false ∷ []
+unfolding whole part binaryBy scalarRead resultSaid scalarRight
+carried-answers = refl
 
 -- neither a refusal nor another type nor another pattern is taken for the value
 pub scalars-answers : map scalarRight (negated 0 0 0 ∷ negated 1 0 0 ∷ negated 0 3 0 ∷ negated 0 0 1 ∷ []) ≡ true ∷ false ∷ false ∷ false ∷ []

@@ -1,7 +1,7 @@
 -- The bytes that C is handed of an operand, and the judgement of what it answers. Assumes nothing.
 use Prim.Native.Nat.{ℕ, zero, suc, _+_, _*_, _-_, _≤_}
 use mathlib.Core.Path.{_≡_, refl, ap, sym, _∙_}
-use mathlib.Core.Bool.{Bool, true, false, not}
+use mathlib.Core.Bool.{Bool, true, false, not, _||_}
 use mathlib.Core.Logic.{inl, inr}
 use mathlib.Core.List.{List, [], _∷_, _++_, append-nil}
 use native.Mathlib.Omega.{arith}
@@ -9,13 +9,14 @@ use native.Mathlib.Nat.{sub-zero}
 use lib.Dec.{eqb}
 use lib.ListN.{length, getD, take, drop, replicate, length-append, length-take}
 use lib.Seq.{take-all, take-length, length-take-le}
-use borrow.Author.Tests.{ne-eqb, lt-ltb, le-ltb, not-true, not-false}
+use borrow.Author.Tests.{lt-ltb, le-ltb, not-true, not-false}
 use Rattle.integer.proofs.Order.{le-or-lt}
 use Rattle.low.specs.Bytes.{part}
 use Rattle.low.proofs.Parts.{zeros-of}
+use Rattle.value.specs.Answer.{carries}
 use Rattle.value.specs.Pattern.{pick}
 use Rattle.slot.specs.Slot.{bytesOf}
-use Rattle.booth.specs.Operand.{operandIn, callRefused, intoSlot, directAnswer, directBytes}
+use Rattle.booth.specs.Operand.{operandIn, callRefused, intoSlot, fills, directAnswer, directBytes}
 use Rattle.cases.specs.Record.{filled, componentsIn, laidOut, areaIn, usedIn, bytesForC, operandOfC, answerIn, outcomeIn, askedBy}
 use Rattle.cases.specs.Judged.{answeredSo, same, untouched, operatorRight}
 
@@ -72,19 +73,18 @@ module _ (o : List ℕ) (a b : ℕ) (ea : a ≡ getD o 1 0) (eb : b ≡ getD o 2
   used-all h = rw (← ea, ← eb, le-ltb (a * b) 16 h)
 
 -- ---- the judgement
--- a record that says a value says every byte of the slot; one that says a refusal says them as they were
-module _ (s : List ℕ) (k : ℕ) (ek : k ≡ getD s 0 0) where
-  says-value : k ≡ 0 → directBytes untouched (outcomeIn s) ≡ bytesOf (outcomeIn s)
+-- a record that says what fills the slot says every byte of it; any other says them as they were
+module _ (s : List ℕ) (k : ℕ) (ek : k ≡ getD s 0 0) (t : Bool) (et : t ≡ carries k) where
+  says : (b : Bool) → (eqb k 0 || t) ≡ b → directBytes untouched (outcomeIn s) ≡ pick b (bytesOf (outcomeIn s)) untouched
   unfolding intoSlot directBytes outcomeIn
-  says-value z = rw (← ek, z)
-
-  says-refusal : (k ≡ 0 → ⊥) → directBytes untouched (outcomeIn s) ≡ untouched
-  unfolding intoSlot directBytes outcomeIn
-  says-refusal z = go (callRefused (getD s 0 0))
+  says b z = go (callRefused (getD s 0 0))
     where
-      go : (c : Bool) → pick (eqb (pick c (outcomeIn s) (outcomeIn s) .status) 0) (bytesOf (outcomeIn s)) untouched ≡ untouched
-      go true = rw (← ek, ne-eqb k 0 z)
-      go false = rw (← ek, ne-eqb k 0 z)
+      filled : fills (getD s 0 0) ≡ b
+      filled = rw (← ek, ← et) z
+
+      go : (c : Bool) → pick (fills (pick c (outcomeIn s) (outcomeIn s) .status)) (bytesOf (outcomeIn s)) untouched ≡ pick b (bytesOf (outcomeIn s)) untouched
+      go true = rw filled
+      go false = rw filled
 
 module _ (c s : List ℕ) (es : s ≡ answerIn c) (n : ℕ) (en : n ≡ directAnswer untouched (askedBy operandOfC c))
     (m : List ℕ) (em : m ≡ directBytes untouched (askedBy operandOfC c)) (t : Bool) (et : t ≡ answeredSo n s) where
@@ -94,11 +94,11 @@ module _ (c s : List ℕ) (es : s ≡ answerIn c) (n : ℕ) (en : n ≡ directAn
   wrong-answer h = rw (← es, ← en, ← et, not-true t h)
 
   -- where the answer is right, the slot is judged
-  module _ (h : not t ≡ false) (k : ℕ) (ek : k ≡ getD s 0 0) (r : Bool) where
-    pub right-value : k ≡ 0 → r ≡ same m (bytesOf (outcomeIn s)) → r ≡ operatorRight c
+  module _ (h : not t ≡ false) (k : ℕ) (ek : k ≡ getD s 0 0) (v : Bool) (ev : v ≡ carries k) (r : Bool) where
+    pub right-filled : (eqb k 0 || v) ≡ true → r ≡ same m (bytesOf (outcomeIn s)) → r ≡ operatorRight c
     unfolding operatorRight
-    right-value z e = rw (← es, ← en, ← et, not-false t h, ← em, says-value s k ek z) e
+    right-filled z e = rw (← es, ← en, ← et, not-false t h, ← em, says s k ek v ev true z) e
 
-    pub right-refusal : (k ≡ 0 → ⊥) → r ≡ same m untouched → r ≡ operatorRight c
+    pub right-kept : (eqb k 0 || v) ≡ false → r ≡ same m untouched → r ≡ operatorRight c
     unfolding operatorRight
-    right-refusal z e = rw (← es, ← en, ← et, not-false t h, ← em, says-refusal s k ek z) e
+    right-kept z e = rw (← es, ← en, ← et, not-false t h, ← em, says s k ek v ev false z) e

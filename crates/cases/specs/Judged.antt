@@ -76,7 +76,7 @@ scalarRight c =
 abbrev pub untouched : List ℕ
 untouched = replicate 136 170
 
--- operators on bytes: C's answer is what the record says, and so is every byte of the slot; where the record says a refusal, as it was
+-- operators on bytes: C's answer is what the record says, and so is every byte of the slot; where a refusal does not fill it, as it was
 unfoldable pub operatorRight : List ℕ → Bool
 operatorRight c =
     answeredSo (directAnswer untouched (askedBy operandOfC c)) (answerIn c)

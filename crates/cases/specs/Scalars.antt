@@ -1,6 +1,6 @@
 -- Operators on scalars by their codes in a record, and what of their results a record says. Assumes nothing.
 use Prim.Native.Nat.{ℕ}
-use mathlib.Core.Bool.{Bool, true, false, _&&_}
+use mathlib.Core.Bool.{Bool, false, _&&_}
 use mathlib.Core.List.{List, [], _∷_}
 use lib.Dec.{eqb}
 use lib.ListN.{getD}
@@ -9,7 +9,7 @@ use Rattle.value.specs.declared.Scalar.the-variants.{Bool as bool}
 use Rattle.value.specs.declared.ShaderStage.{ShaderStage}
 use Rattle.value.specs.declared.Found.{Found}
 use Rattle.value.specs.declared.Found.the-variants as F
-use Rattle.value.specs.Answer.{Result, value, refused}
+use Rattle.value.specs.Answer.{Result, numberOf, detailOf, scalarIn}
 use Rattle.value.specs.Scalar.{typeOf, bitsOf, scalarOf}
 use Rattle.value.specs.Pair.{pairOf}
 use Rattle.conversion.specs.Convert.{commonOf, convertTo}
@@ -50,10 +50,8 @@ scalarRead o = scalarFound (scalarOf (getD o 0 0) (numberAt o 4))
 
 -- a result's number and detail, packed as C has them; a value has the number 0
 abbrev pub packedResult : Result → ℕ
-packedResult (value s) = packedAnswer 0 0
-packedResult (refused r) = packedAnswer (r .number) (r .detail)
+packedResult x = packedAnswer (numberOf x) (detailOf x)
 
--- the type and the pattern of a value are those that the rest of a record says
+-- the type and the pattern of a value, or of the operand that is carried, are those that the rest of a record says; zeros where there is neither
 abbrev pub valueSaid : Result → List ℕ → Bool
-valueSaid (value s) rest = eqb (typeOf s) (getD rest 5 0) && eqb (bitsOf s) (numberAt rest 9)
-valueSaid (refused r) rest = true
+valueSaid x rest = eqb (typeOf (scalarIn x)) (getD rest 5 0) && eqb (bitsOf (scalarIn x)) (numberAt rest 9)

@@ -49,7 +49,7 @@ fn asked(case: &[u8], slot: &mut [u8]) -> u64
     booth::wgsl_binary(op, stage, &left[0..m], &right[0..n], slot)
 }
 
-// Whether status, detail and every byte of the slot are those of the record. A refusal leaves the slot as it was.
+// Whether status, detail and every byte of the slot are those of the record. A refusal that carries no operand leaves the slot as it was.
 pub fn is_right(case: &[u8]) -> bool
     ensures { λ r. ⌜ r ≡ operatorRight (now (case .entry)) ⌝ }
 {
@@ -60,7 +60,8 @@ pub fn is_right(case: &[u8]) -> bool
     if !answers(answer, said) {
         return false;
     }
-    if low::byte(said, 0) == 0 {
+    let status = low::byte(said, 0);
+    if (status == 0) | value::carries(status) {
         return record::holds(&slot, said);
     }
     record::same(&slot, &before)

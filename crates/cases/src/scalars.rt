@@ -10,6 +10,7 @@ use value::Scalar;
 use value::ShaderStage;
 use value::pattern::bits_of;
 use value::pattern::scalar_of;
+use value::said;
 use value::type_of;
 ghost use mathlib.Core.Path.{_≡_};
 ghost use Rattle.value.specs.Answer.{answerOf};
@@ -20,18 +21,7 @@ ghost use Rattle.cases.specs.Judged.{resultSaid, scalarRight};
 fn packed(a: Answer) -> u64
     ensures { λ r. ⌜ r ≡ packedResult (answerOf a) ⌝ }
 {
-    match a {
-        Answer::Value(_) => 0,
-        Answer::Unary => 0x1_0000_0000,
-        Answer::Binary => 0x2_0000_0000,
-        Answer::AddOverflow => 0x4_0000_0000,
-        Answer::SubOverflow => 0x5_0000_0000,
-        Answer::MulOverflow => 0x6_0000_0000,
-        Answer::DivByZero => 0x7_0000_0000,
-        Answer::RemZeroDiv => 0x8_0000_0000,
-        Answer::ShlOverflow(n) => 0x9_0000_0000 + n as u64,
-        Answer::ShrOverflow(n) => 0xa_0000_0000 + n as u64,
-    }
+    (said::number(a) as u64) * 0x1_0000_0000 + said::detail(a) as u64
 }
 
 // The unary operator of a code; every other code is taken as 3.
@@ -71,13 +61,11 @@ fn binary(op: u8, stage: ShaderStage, l: Scalar, r: Scalar) -> Answer
     }
 }
 
-// Whether a value, if there is one, has the type and the bits that the rest of a record says.
+// Whether the value, or the operand carried, has the type and the bits that the rest of a record says; both are 0 where there is neither.
 fn value_said(a: Answer, rest: &[u8]) -> bool
     ensures { λ r. ⌜ r ≡ valueSaid (answerOf a) (now (rest .entry)) ⌝ }
 {
-    let Answer::Value(s) = a else {
-        return true;
-    };
+    let s = said::scalar_in(a);
     let ty = type_of(s);
     let bits = bits_of(s);
     (ty == low::byte(rest, 5)) & (bits == low::number(low::part(rest, 9, 8)))

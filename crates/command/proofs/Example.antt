@@ -15,7 +15,7 @@ use Rattle.low.specs.Bytes.{upTo, lows, whole, part, patch, eights, numbers}
 use Rattle.components.specs.Components.{allOrRefusal}
 use Rattle.pairing.specs.Pairing.{targetsOf}
 use Rattle.dispatch.specs.Meaning.{byComponent, onConverted, convertedTo, judged, binaryMeaning}
-use Rattle.slot.specs.Slot.{bytesOf, saidBy, slot, put, each, componentFormed, componentsFormed, valueFormed, blank, formed, wellFormed, referenceTo}
+use Rattle.slot.specs.Slot.{bytesOf, saidBy, slot, put, each, componentFormed, componentsFormed, valueFormed, blank, integerFormed, formed, wellFormed, referenceTo}
 use Rattle.low.specs.Read.{Read, found, must}
 use Rattle.sheet.specs.Tree.{literal, reference, binary, setting, expression, names, namesOf}
 use Rattle.sheet.specs.Sheet.{Sheet, sheetOf, readSheet}
@@ -69,14 +69,14 @@ listings =
     ++ ascii "2 0 4 1 1 0 000000000000001f\n"
     ++ ascii "sheet 3\n"
     ++ ascii "0 0 4 1 1 0 0000000000000020\n"
-    ++ ascii "1 9 0 0 0 32\n"
+    ++ ascii "1 9 4 1 1 32 0000000000000001\n"
     ++ ascii "2 11 0 0 0 1\n"
 
 sheet-lists : pages false read asked ≡ listings
 unfolding pages page movedPage changePage afterChange changePages entriesOf text.blank decimals dec hex spaced shown line lines entries listing refusalLine
     freshAnswer freshBytes fresh changeAnswer changeBytes changed withContent evaluated meansOf content onTwo meaning entryMeaning faultOf isSetting settingType
     entryAt refsOf names namesOf any chain tally keptOf must lows whole part patch eights numbers bytesOf saidBy slot put each componentFormed
-    componentsFormed valueFormed blank formed wellFormed referenceTo stepOf convOf upTo every operandFormed allOrRefusal targetsOf byComponent onConverted
+    componentsFormed valueFormed blank integerFormed formed wellFormed referenceTo stepOf convOf upTo every operandFormed allOrRefusal targetsOf byComponent onConverted
     convertedTo judged binaryMeaning commonType wrapU wrapS
 sheet-lists = refl
 

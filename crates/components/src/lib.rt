@@ -22,6 +22,8 @@ pub fn finished(comps: [u64; 16]) -> Run
         refusal: Refusal {
             number: 0,
             detail: 0,
+            ty: 0,
+            bits: 0,
         },
         comps,
     }
@@ -109,6 +111,8 @@ pub fn converted(from: u8, to: u8, xs: &[u64; 16], n: usize) -> Run
             return ended(Step::Refused(Refusal {
                 number: 2,
                 detail: 0,
+                ty: 0,
+                bits: 0,
             }));
         };
         out[i] = bits;

@@ -5,7 +5,7 @@ use mathlib.Core.List.{List}
 use Prim.Native.Nat.{ℕ}
 use borrow.Author.Tests.{not-true, not-false}
 use Rattle.components.specs.Components.{Out, runResult}
-use Rattle.operand.specs.Outcome.{refusedWith}
+use Rattle.operand.specs.Outcome.{refusedWith, refusedAs}
 use Rattle.dispatch.specs.Meaning.{refuseUnless, onResult, shapedAnswer}
 use Rattle.operand.specs.declared.Outcome.{Outcome}
 use Rattle.components.specs.declared.Run.{Run}
@@ -20,7 +20,7 @@ module _ (r b : Bool) (e : r ≡ b) (n : ℕ) (v o : Outcome) where
 
 -- a run that the code tests: a refused one is the answer, any other goes on
 module _ (r : Run) (o : Out (List ℕ)) (e : runResult r ≡ o) (v : Outcome) (k : List ℕ → Outcome) where
-  pub on-stop : r .stopped ≡ true → v ≡ refusedWith (r .refusal .number) (r .refusal .detail) → v ≡ onResult o k
+  pub on-stop : r .stopped ≡ true → v ≡ refusedAs (r .refusal) → v ≡ onResult o k
   on-stop h q = rw (← e, h) q
 
   pub on-go : r .stopped ≡ false → v ≡ k (r .comps) → v ≡ onResult o k

@@ -8,7 +8,8 @@ use Rattle.types.specs.Types.{commonType}
 use Rattle.value.specs.Pattern.{keptOf}
 use Rattle.scalar.specs.Step.{stepOf, unaryStepOf, convOf}
 use Rattle.low.specs.Bytes.{upTo}
-use Rattle.operand.specs.Outcome.{refusedWith, valueOf}
+use Rattle.operand.specs.Outcome.{refusedWith, refusedOn, valueOf}
+use Rattle.operand.specs.Operand.{aScalar}
 use Rattle.operand.specs.declared.Instance.{Instance}
 use Rattle.components.specs.Components.{allOrRefusal}
 use Rattle.pairing.specs.Pairing.{targetsOf}
@@ -28,6 +29,11 @@ converted-first = (refl, refl)
 pub counts : judged 17 2 (of 3 (5 ∷ 1 ∷ [])) (of 1 (0x80000000 ∷ 0x80000001 ∷ [])) ≡ valueOf (of 3 (5 ∷ 2 ∷ []))
 unfolding wrapU wrapS keptOf stepOf convOf upTo allOrRefusal targetsOf byComponent onConverted convertedTo judged
 counts = refl
+
+-- Const, U32 (1,3,5) << AbstractInt (0,31,40): the operand of component 0, of the last that fails, or the converted count for that of the first
+pub failing-operand : judged 17 0 (of 4 (1 ∷ 3 ∷ 5 ∷ [])) (of 1 (0 ∷ 31 ∷ 40 ∷ [])) ≡ refusedOn 9 31 (aScalar 4 3)
+unfolding keptOf stepOf convOf upTo allOrRefusal targetsOf byComponent onConverted convertedTo judged
+failing-operand = refl
 
 -- AbstractInt (1, 2 ^ 32) / I32 (0,1) is Binary: converted when its turn comes, component 0 would be DivByZero first
 pub conversions-first : judged 6 0 (of 1 (1 ∷ 0x100000000 ∷ [])) (of 3 (0 ∷ 1 ∷ [])) ≡ refusedWith 2 0

@@ -4,5 +4,6 @@ pub mod Answers
 pub mod Converted
 pub mod Outcomes
 pub mod Stands
+pub mod Multiplied
 pub mod Single
 pub mod Impostors

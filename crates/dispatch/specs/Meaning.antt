@@ -7,7 +7,7 @@ use Rattle.value.specs.Pattern.{pick}
 use Rattle.types.specs.Types.{rightOf, unaryRightOf, resultType}
 use Rattle.value.specs.Refusals as No
 use Rattle.operand.specs.Operand.{shapeOf, isMatrix, componentCount, operandFormed}
-use Rattle.operand.specs.Outcome.{refusedWith, valueOf}
+use Rattle.operand.specs.Outcome.{refusedWith, refusedAs, valueOf}
 use Rattle.components.specs.Components.{Out, got, stop, eachComponent, lane, strideOf, binaryAt, unaryAt, convertedAt}
 use Rattle.products.specs.Products.{cellAt, vectorMatrix}
 use Rattle.pairing.specs.Pairing.{opKnown, unaryKnown, stageKnown, pairOk, targetsOf, isProduct, fitsOf, misfitOf, resultShape}
@@ -25,12 +25,12 @@ refuseUnless false n o = refusedWith n 0
 -- a refusal is the answer; a result goes on
 abbrev pub onResult : {A : Type 0} → Out A → (A → Outcome) → Outcome
 onResult (got a) k = k a
-onResult (stop r) k = refusedWith (r .number) (r .detail)
+onResult (stop r) k = refusedAs r
 
 -- components as a value of a type and shape
 abbrev pub shapedAnswer : Out (List ℕ) → ℕ → ℕ → ℕ → Outcome
 shapedAnswer (got cs) ty c r = valueOf (record { ty = ty; cols = c; rows = r; comps = cs })
-shapedAnswer (stop r) ty c w = refusedWith (r .number) (r .detail)
+shapedAnswer (stop r) ty c w = refusedAs r
 
 -- by component, of the shape s; a scalar stands for every component of the other operand
 abbrev pub byComponentAs : Shape → ℕ → ℕ → ℕ → Shape → List ℕ → Shape → List ℕ → Outcome

@@ -11,6 +11,7 @@ use operand::count;
 use operand::is_matrix;
 use operand::is_scalar;
 use operand::refused;
+use operand::refused_as;
 use pairing::Targets;
 use pairing::fits;
 use pairing::is_product;
@@ -23,6 +24,7 @@ use products::vec_mat;
 use value::refusals;
 ghost use mathlib.Core.Path.{_≡_};
 ghost use mathlib.Core.Bool.{true};
+ghost use Rattle.value.specs.Pattern.{pick};
 ghost use Rattle.operand.specs.Operand.{inShape, Small, operandFormed};
 ghost use Rattle.components.specs.Components.{runResult, strideOf};
 ghost use Rattle.pairing.specs.Pairing.{targetsOf};
@@ -32,9 +34,8 @@ ghost use Rattle.dispatch.specs.Meaning.{shapedAnswer, byComponent, matr
 fn answer_of(run: Run, ty: u8, cols: u8, rows: u8) -> Outcome
     ensures { λ o. ⌜ o ≡ shapedAnswer (runResult run) ty cols rows ⌝ }
 {
-    let refusal = run.refusal;
     if run.stopped {
-        return refused(refusal.number, refusal.detail);
+        return refused_as(run.refusal);
     }
     let comps = run.comps;
     answered(Instance {
@@ -73,19 +74,33 @@ fn componentwise(
     answer_of(run, types::result_type(op, ty), s.cols, s.rows)
 }
 
-// A product that sums: vector with matrix, matrix with vector, matrix with matrix.
+// The first of two numbers, or the second.
+fn choose(first: bool, x: u8, y: u8) -> u8
+    ensures { λ r. ⌜ r ≡ pick first x y ⌝ }
+{
+    if first { x } else { y }
+}
+
+// A product that sums: vector with matrix, matrix with vector, matrix with matrix. A vector on the left is worked as a matrix of one
+// row, one component after the other; where a step refuses, anew in its own order, in which another refusal may come first.
 fn multiply(stage: u8, ty: u8, a: Shape, x: &[u64; 16], b: Shape, y: &[u64; 16]) -> Outcome
     requires { ⌜ Small a × Small b ⌝ }
     ensures { λ o. ⌜ o ≡ matrixProduct stage ty a (now (x .entry)) b (now (y .entry)) ⌝ }
 {
-    if a.cols == 1 {
-        let run = vec_mat(stage, ty, x, y, b.rows as usize, b.cols as usize);
-        return answer_of(run, ty, 1, b.cols);
-    }
-    let rows = a.rows as usize;
-    let inner = a.cols as usize;
+    let vector = a.cols == 1;
+    let rows = choose(vector, 1, a.rows) as usize;
+    let inner = choose(vector, b.rows, a.cols) as usize;
     let run = cells(stage, ty, x, y, rows, inner, rows * (b.cols as usize));
-    answer_of(run, ty, b.cols, a.rows)
+    if vector & run.stopped {
+        let again = vec_mat(stage, ty, x, y, b.rows as usize, b.cols as usize);
+        return answer_of(again, ty, 1, b.cols);
+    }
+    answer_of(
+        run,
+        ty,
+        choose(vector, 1, b.cols),
+        choose(vector, b.cols, a.rows),
+    )
 }
 
 // Converted operands: equal shape, the type's right, the components.
@@ -126,14 +141,12 @@ fn convert_both(
         return work(op, stage, x, a, l, b, r);
     }
     let left = converted(lt, x, l, count(a));
-    let first = left.refusal;
     if left.stopped {
-        return refused(first.number, first.detail);
+        return refused_as(left.refusal);
     }
     let right = converted(rt, y, r, count(b));
-    let second = right.refusal;
     if right.stopped {
-        return refused(second.number, second.detail);
+        return refused_as(right.refusal);
     }
     work(op, stage, x, a, &left.comps, b, &right.comps)
 }

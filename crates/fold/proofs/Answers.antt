@@ -1,6 +1,6 @@
 -- Laws of the answers of the public calls, from what the reader found and what the loops did.
 use mathlib.Core.Path.{_≡_, refl, sym, ap, _∙_}
-use mathlib.Core.List.{List, _∷_}
+use mathlib.Core.List.{List}
 use mathlib.Core.Bool.{Bool, true, false, not, false≢true}
 use mathlib.Core.Logic.{⊎-elim, _≢_}
 use Prim.Native.Nat.{ℕ, _*_, _≤_, _<_}
@@ -17,6 +17,8 @@ use Rattle.types.specs.Edition.{Edition}
 use Rattle.types.proofs.Editions.{in-edition}
 use Rattle.value.specs.Pattern.{pick, properOf, keptOf}
 use Rattle.value.specs.Refusals as No
+use Rattle.operand.specs.declared.Instance.{Instance}
+use Rattle.operand.specs.Operand.{aScalar}
 use Rattle.low.proofs.Tests.{both}
 use Rattle.sheet.specs.Tree.{Entry}
 use Rattle.sheet.specs.Sheet.{Sheet, readSheet, countedOf}
@@ -34,9 +36,9 @@ use Rattle.fold.specs.Inside.{WorksAll, Found, Judged, Applied}
 use Rattle.fold.proofs.Steps.{all-worked}
 
 -- ---- new content
-pub content-is : (ty bits k : ℕ) → k ≡ keptOf ty bits → record { ty = ty; cols = 1; rows = 1; comps = k ∷ replicate 15 0 } ≡ content ty bits
+pub content-is : (ty bits k : ℕ) (v : Instance) → k ≡ keptOf ty bits → v ≡ aScalar ty k → v ≡ content ty bits
 unfolding content
-content-is ty bits k e = rw e
+content-is ty bits k v e q = q ∙ ap (aScalar ty) e
 
 -- ---- the checks of a change
 past-no-setting : (es : Sheet) (i : ℕ) → length (es .entries) ≤ i → isSetting (entryAt es i) ≡ false

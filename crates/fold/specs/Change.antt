@@ -1,9 +1,9 @@
 -- The change of a setting: its checks, and the buffer afterwards.
 use Prim.Native.Nat.{ℕ}
 use mathlib.Core.Bool.{Bool, _&&_}
-use mathlib.Core.List.{List, _∷_}
+use mathlib.Core.List.{List}
 use lib.Dec.{eqb}
-use lib.ListN.{length, replicate}
+use lib.ListN.{length}
 use Rattle.low.specs.declared.Counted.{Counted}
 use Rattle.low.specs.declared.Counted.the-variants.{Done, Refused}
 use Rattle.low.specs.Bytes.{upTo}
@@ -12,6 +12,7 @@ use Rattle.types.specs.Edition.{Edition, inEdition}
 use Rattle.value.specs.Pattern.{pick, properOf, keptOf}
 use Rattle.value.specs.Refusals as No
 use Rattle.operand.specs.declared.Instance.{Instance}
+use Rattle.operand.specs.Operand.{aScalar}
 use Rattle.operand.specs.Outcome.{valueOf}
 use Rattle.slot.specs.Slot.{bytesOf}
 use Rattle.sheet.specs.Sheet.{Sheet}
@@ -21,7 +22,7 @@ use Rattle.fold.specs.Fresh.{Means, meansOf, evaluated, sized}
 
 -- new content is a type and 8 bytes; any NaN pattern is kept as its type's one
 unfoldable pub content : ℕ → ℕ → Instance
-content ty bits = record { ty = ty; cols = 1; rows = 1; comps = keptOf ty bits ∷ replicate 15 0 }
+content ty bits = aScalar ty (keptOf ty bits)
 
 -- its bytes as a slot
 abbrev pub contentBytes : ℕ → ℕ → List ℕ

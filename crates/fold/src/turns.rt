@@ -64,14 +64,7 @@ pub(crate) fn judge(s: &[u8], results: &[u8], n: usize, at: usize, i: u64, ty: u
 fn content(ty: u8, bits: u64) -> Instance
     ensures { λ v. ⌜ v ≡ content ty bits ⌝ }
 {
-    let mut comps = [0u64; 16];
-    comps[0] = value::kept(ty, bits);
-    Instance {
-        ty,
-        cols: 1,
-        rows: 1,
-        comps,
-    }
+    operand::scalar(ty, value::kept(ty, bits))
 }
 
 // Puts new content into the slot of setting i.

@@ -6,7 +6,7 @@ use lib.Dec.{eqb}
 use lib.ListN.{getD, replicate}
 use Rattle.operand.specs.Operand.{shapeOk, isScalar, isVector, isMatrix, componentCount, every, operandFormed, aScalar}
 use Rattle.low.specs.Bytes.{upTo}
-use Rattle.operand.specs.Outcome.{refusedWith, valueOf}
+use Rattle.operand.specs.Outcome.{refusedWith, refusedAs, valueOf}
 
 -- five rows; a matrix of one row, of integers, of no type
 pub no-shape : (shapeOk 5 1 5 ≡ false) × (shapeOk 5 2 1 ≡ false) × (shapeOk 3 2 2 ≡ false) × (shapeOk 7 1 1 ≡ false)
@@ -25,8 +25,17 @@ unfolding operandFormed upTo every
 no-operand = (refl, refl)
 
 -- one refusal for all, or one without its detail; a value for a refusal
-pub other-refusals : (eqb (refusedWith 9 32 .status) (refusedWith 4 32 .status) ≡ false) × (eqb (refusedWith 9 32 .detail) 0 ≡ false)
+pub other-refusals : (eqb (refusedWith 11 32 .status) (refusedWith 4 32 .status) ≡ false) × (eqb (refusedWith 11 32 .detail) 0 ≡ false)
 other-refusals = (refl, refl)
+
+-- a scalar in every component, or of one fixed type
+pub one-in-use : (getD (aScalar 3 7 .comps) 1 0 ≡ 0) × (aScalar 3 7 .ty ≡ 3)
+one-in-use = (refl, refl)
+
+-- zeros beside a shift's refusal; an operand beside another
+pub beside-refusals : (refusedAs (record { number = 9; detail = 32; ty = 4; bits = 1 }) .value ≡ aScalar 4 1)
+    × (refusedAs (record { number = 7; detail = 0; ty = 4; bits = 1 }) ≡ refusedWith 7 0)
+beside-refusals = (refl, refl)
 
 -- one fixed value for all; a refusal for a value
 pub other-values : (eqb (getD (valueOf (aScalar 3 7) .value .comps) 0 0) (getD (valueOf (aScalar 3 8) .value .comps) 0 0) ≡ false) × (valueOf (aScalar 3 7) .status ≡ 0)

@@ -3,6 +3,10 @@ use mathlib.Core.Path.{sym, _∙_}
 use Rattle.integer.proofs.Single.{OneResult}
 use Rattle.operand.proofs.refused.Kinds as refused-kinds
 use Rattle.operand.proofs.refused.Reads as refused-reads
+use Rattle.operand.proofs.scalar.Kinds as scalar-kinds
+use Rattle.operand.proofs.scalar.Reads as scalar-reads
+use Rattle.operand.proofs.refused_as.Kinds as refused-as-kinds
+use Rattle.operand.proofs.refused_as.Reads as refused-as-reads
 use Rattle.operand.proofs.answered.Kinds as answered-kinds
 use Rattle.operand.proofs.answered.Reads as answered-reads
 use Rattle.operand.proofs.shape_ok.Kinds as shape-ok-kinds
@@ -20,6 +24,12 @@ use Rattle.operand.proofs.formed.Reads as formed-reads
 
 pub refused-one : OneResult 0 refused-kinds.ps refused-kinds.r refused-reads.Post
 refused-one κs a x y s t p q = p ∙ sym q
+
+pub scalar-one : OneResult 0 scalar-kinds.ps scalar-kinds.r scalar-reads.Post
+scalar-one κs a x y s t p q = p ∙ sym q
+
+pub refused-as-one : OneResult 0 refused-as-kinds.ps refused-as-kinds.r refused-as-reads.Post
+refused-as-one κs a x y s t p q = p ∙ sym q
 
 pub answered-one : OneResult 0 answered-kinds.ps answered-kinds.r answered-reads.Post
 answered-one κs a x y s t p q = p ∙ sym q

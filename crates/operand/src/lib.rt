@@ -1,10 +1,11 @@
 // Scalars, vectors and matrices as one flat record: which of them are well formed, and what an operator answers.
+use value::Refusal;
 ghost use mathlib.Core.Path.{_≡_};
 ghost use Prim.Native.Nat.{_≤_};
 ghost use Rattle.value.specs.Pattern.{properOf};
-ghost use Rattle.operand.specs.Operand.{shapeOk, inShape, isScalar, isVector, isMatrix, componentCount, Small, every, componentAt, operandFormed};
+ghost use Rattle.operand.specs.Operand.{shapeOk, inShape, isScalar, isVector, isMatrix, componentCount, Small, every, componentAt, operandFormed, aScalar};
 ghost use Rattle.low.specs.Bytes.{upTo};
-ghost use Rattle.operand.specs.Outcome.{refusedWith, valueOf};
+ghost use Rattle.operand.specs.Outcome.{refusedWith, refusedAs, valueOf};
 
 // A scalar, vector or matrix: its components, column by column, and its type, columns and rows. The components stand first, at
 // an even place, where a copy of them is cheapest.
@@ -15,7 +16,7 @@ pub struct Instance {
     pub rows: u8,
 }
 
-// An answer: status 0 and a value, or a refusal's number and detail and a value of zeros.
+// An answer: status 0 and a value, or a refusal's number and detail beside zeros; a shift's refusal beside its left operand.
 pub struct Outcome {
     pub value: Instance,
     pub detail: u32,
@@ -41,6 +42,34 @@ pub fn refused(status: u8, detail: u32) -> Outcome
             rows: 0,
             comps: [0u64; 16],
         },
+    }
+}
+
+// A scalar as an operand; its unused components are 0.
+pub fn scalar(ty: u8, bits: u64) -> Instance
+    ensures { λ v. ⌜ v ≡ aScalar ty bits ⌝ }
+{
+    let mut comps = [0u64; 16];
+    comps[0] = bits;
+    Instance {
+        ty,
+        cols: 1,
+        rows: 1,
+        comps,
+    }
+}
+
+// A scalar operator's refusal as an answer: beside the operand that it carries, or zeros.
+pub fn refused_as(r: Refusal) -> Outcome
+    ensures { λ o. ⌜ o ≡ refusedAs r ⌝ }
+{
+    if !value::carries(r.number) {
+        return refused(r.number, r.detail);
+    }
+    Outcome {
+        status: r.number,
+        detail: r.detail,
+        value: scalar(r.ty, r.bits),
     }
 }
 

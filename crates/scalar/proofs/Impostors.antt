@@ -14,6 +14,11 @@ pub binary-witnesses : (stepOf 4 0 3 5 2 ≡ S.Bits 3 3) × (stepOf 10 0 4 1 2 �
 unfolding wrapU wrapS stepOf
 binary-witnesses = (refl, refl, refl)
 
+-- a shift refused with its count as the operand, with the operand's type lost, or with a number where the pattern belongs
+pub shift-witness : stepOf 17 0 3 0xFFFFFFFD 40 ≡ S.Refused (record { number = 9; detail = 40; ty = 3; bits = 0xFFFFFFFD })
+unfolding stepOf
+shift-witness = refl
+
 -- the pattern itself; a code past the operators' taken for the last one's
 pub unary-witnesses : (unaryStepOf 2 3 5 ≡ S.Bits 3 0xFFFFFFFB) × (unaryStepOf 4 3 5 ≡ S.Refused (refusal 1 0))
 unfolding wrapU wrapS unaryStepOf

@@ -1,7 +1,7 @@
 -- Every operator on sound operands gives a sound scalar of the right type or one of 01's refusals. Assumes nothing.
 use Prim.Native.Nat.{ℕ, _+_, _-_, _*_, _/_, _%_, _^_, _<_, _≤_}
-use mathlib.Core.Path.{_≡_, refl, sym, subst}
-use mathlib.Core.Bool.{Bool, true, false, not, _||_}
+use mathlib.Core.Path.{_≡_, refl, sym, subst, _∙_}
+use mathlib.Core.Bool.{Bool, true, false, not, _||_, false≢true}
 use native.Mathlib.Omega.{arith}
 use lib.Dec.{T, eqb, ltb, leb}
 use lib.Bits.{bitAnd, bitOr, bitXor}
@@ -20,6 +20,7 @@ use Rattle.shift.specs.Shift.{shlOver, shlOverU}
 use Rattle.integer.specs.declared.Whole.the-variants as W
 use Rattle.integer.proofs.Wrap.{wrapU-fits}
 use Rattle.quotient.proofs.Division.{quot-fits}
+use Rattle.types.specs.Types.{integerOf}
 use Rattle.rounding.specs.Kind.{Kind, half, single, double, convert}
 use Rattle.rounding.specs.Arithmetic.{add, sub, mul, div, rem}
 use Rattle.rounding.specs.Bits.{toBits, ofBits}
@@ -35,43 +36,51 @@ use Rattle.value.specs.declared.Found.{Found}
 use Rattle.value.specs.declared.Found.the-variants.{Value, Nothing}
 use Rattle.value.specs.declared.Pair.{Pair}
 use Rattle.value.specs.declared.Pair.the-variants as P
-use Rattle.value.specs.Answer.{Result, value, refused, refusal, answerOf, strict}
+use Rattle.value.specs.Answer.{Result, value, refused, shiftRefused, refusal, carries, answerOf, strict}
+use Rattle.value.specs.Pattern.{properOf, keptOf}
 use Rattle.value.specs.Scalar.{typeOf, finiteOf, keptScalar}
 use Rattle.arithmetic.specs.Arithmetic.{inExec, finiteOr, settled, wholeOr, halfOf, arithmetic, addOf, subOf, mulOf, noDiv, divOf, noRem, remOf, negOf}
 use Rattle.relation.specs.Logical.{logical, notOf}
 use Rattle.relation.specs.Comparison.{equality, order, numbersOf}
 use Rattle.bitwise.specs.Bits.{bitNotOf, signedBits, bitwise, bitOrOf, bitAndOf, bitXorOf}
-use Rattle.bitwise.specs.Shift.{shlExact, shlWrapped, shrExact, shrReduced, shlBy, shrBy, byCount, shlOf, shrOf}
+use Rattle.bitwise.specs.Shift.{shlOverflow, shrOverflow, shlExact, shlWrapped, shrExact, shrReduced, shlBy, shrBy, byCount, shlOf, shrOf}
 use Rattle.value.specs.Refusals as No
-use Rattle.value.proofs.Sound.{Sound, OfType, Couple, bits-fit, kept-sound}
+use Rattle.scalar.specs.Step.{carrying}
+use Rattle.value.proofs.Sound.{Sound, OfType, Couple, bits-fit, bits-proper, bits-kept, kept-sound}
 use Rattle.arithmetic.proofs.Negated.{sign-set, sign-cleared, half-nan}
 
--- a refusal: its number 1, 2 or 4 to 10, its detail 0 but for the shifts', whose count is a U32
+-- a refusal: its number 1, 2 or 4 to 10, its detail 0 but for the shifts', whose count is a U32 and whose operand is an integer's pattern
 pub record Refuses (r : Refusal) : Type 0 where
   pub low : 1 ≤ r .number
   pub high : r .number ≤ 10
   pub shapeless : r .number ≡ 3 → ⊥
   pub plain : (r .number ≡ 9 → ⊥) → (r .number ≡ 10 → ⊥) → r .detail ≡ 0
   pub small : r .detail < 4294967296
+  pub operand : carries (r .number) ≡ true → (integerOf (r .ty) ≡ true) × ((properOf (r .ty) (r .bits) ≡ true) × (keptOf (r .ty) (r .bits) ≡ r .bits))
 
 abbrev pub Kept : ℕ → Result → Type 0
 Kept ty (value s) = (typeOf s ≡ ty) × Sound s
 Kept ty (refused r) = Refuses r
+Kept ty (shiftRefused n d l) = Refuses (carrying n d l)
 
-plainly : (n : ℕ) → 1 ≤ n → n ≤ 10 → (n ≡ 3 → ⊥) → Refuses (refusal n 0)
-plainly n l h s = record { low = l; high = h; shapeless = s; plain = λ a b. refl; small = omega arith }
+plainly : (n : ℕ) → 1 ≤ n → n ≤ 10 → (n ≡ 3 → ⊥) → carries n ≡ false → Refuses (refusal n 0)
+plainly n l h s e = record { low = l; high = h; shapeless = s; plain = λ a b. refl; small = omega arith; operand = λ c. absurd (false≢true (sym e ∙ c)) }
 
 pub no-unary : Refuses (refusal No.Unary 0)
-no-unary = plainly 1 (omega arith) (omega arith) (λ e. omega arith)
+no-unary = plainly 1 (omega arith) (omega arith) (λ e. omega arith) refl
 
 pub no-binary : Refuses (refusal No.Binary 0)
-no-binary = plainly 2 (omega arith) (omega arith) (λ e. omega arith)
+no-binary = plainly 2 (omega arith) (omega arith) (λ e. omega arith) refl
 
-over-left : (n : ℕ) → n < 4294967296 → Refuses (refusal No.ShlOverflow n)
-over-left n z = record { low = omega arith; high = omega arith; shapeless = λ e. omega arith; plain = λ a b. absurd (a refl); small = z }
+-- a shift's, of a sound integer
+module _ (n : ℕ) (z : n < 4294967296) (l : Scalar) (i : integerOf (typeOf l) ≡ true) (h : Sound l) where
+  over-left : Refuses (carrying No.ShlOverflow n l)
+  over-left =
+      record { low = omega arith; high = omega arith; shapeless = λ e. omega arith; plain = λ a b. absurd (a refl); small = z; operand = λ c. (i, (bits-proper l h, bits-kept l h)) }
 
-over-right : (n : ℕ) → n < 4294967296 → Refuses (refusal No.ShrOverflow n)
-over-right n z = record { low = omega arith; high = omega arith; shapeless = λ e. omega arith; plain = λ a b. absurd (b refl); small = z }
+  over-right : Refuses (carrying No.ShrOverflow n l)
+  over-right =
+      record { low = omega arith; high = omega arith; shapeless = λ e. omega arith; plain = λ a b. absurd (b refl); small = z; operand = λ c. (i, (bits-proper l h, bits-kept l h)) }
 
 -- ---- by a test
 pub chosen : (ty : ℕ) (t : Bool) (a b : Result) → (t ≡ true → Kept ty a) → (t ≡ false → Kept ty b) → Kept ty (pick t a b)
@@ -153,19 +162,19 @@ rem-fit : (g : Format) (x y : Float) → T (fits g x) → T (fits g (rem (of g) 
 rem-fit g x y f = subst (λ (v : Float). T (fits g v)) (rem-is g x y) (rem-fits g x y f)
 
 pub add-kept : (stage : ShaderStage) (ty : ℕ) (p : Pair) → Couple ty p → Kept ty (addOf stage p)
-add-kept = arithmetic-kept _+ℤ_ add add-fit (answerOf AddOverflow) (λ ty. plainly 4 (omega arith) (omega arith) (λ e. omega arith))
+add-kept = arithmetic-kept _+ℤ_ add add-fit (answerOf AddOverflow) (λ ty. plainly 4 (omega arith) (omega arith) (λ e. omega arith) refl)
 
 pub sub-kept : (stage : ShaderStage) (ty : ℕ) (p : Pair) → Couple ty p → Kept ty (subOf stage p)
-sub-kept = arithmetic-kept _-ℤ_ sub sub-fit (answerOf SubOverflow) (λ ty. plainly 5 (omega arith) (omega arith) (λ e. omega arith))
+sub-kept = arithmetic-kept _-ℤ_ sub sub-fit (answerOf SubOverflow) (λ ty. plainly 5 (omega arith) (omega arith) (λ e. omega arith) refl)
 
 pub mul-kept : (stage : ShaderStage) (ty : ℕ) (p : Pair) → Couple ty p → Kept ty (mulOf stage p)
-mul-kept = arithmetic-kept _*ℤ_ mul mul-fit (answerOf MulOverflow) (λ ty. plainly 6 (omega arith) (omega arith) (λ e. omega arith))
+mul-kept = arithmetic-kept _*ℤ_ mul mul-fit (answerOf MulOverflow) (λ ty. plainly 6 (omega arith) (omega arith) (λ e. omega arith) refl)
 
 no-div : Refuses (refusal No.DivByZero 0)
-no-div = plainly 7 (omega arith) (omega arith) (λ e. omega arith)
+no-div = plainly 7 (omega arith) (omega arith) (λ e. omega arith) refl
 
 no-rem : Refuses (refusal No.RemZeroDiv 0)
-no-rem = plainly 8 (omega arith) (omega arith) (λ e. omega arith)
+no-rem = plainly 8 (omega arith) (omega arith) (λ e. omega arith) refl
 
 pub div-kept : (stage : ShaderStage) (ty : ℕ) (p : Pair) → Couple ty p → Kept ty (divOf stage p)
 div-kept stage ty (P.Bool x y) h = no-binary
@@ -296,20 +305,20 @@ module _ (ty : ℕ) where
 
   -- ---- shifts
   inside : (a b : Bool) → (a || not b) ≡ false → b ≡ true
-  inside true b e = absurd (mathlib.Core.Bool.false≢true (sym e))
+  inside true b e = absurd (false≢true (sym e))
   inside false b e = not-false b e
 
   exact-kept : (s : Scalar) (n : ℕ) → n < 4294967296 → (typeOf s ≡ ty) × Sound s → Kept ty (shlExact s n)
   exact-kept (bool x) n z h = no-binary
   exact-kept (AbstractInt x) n z h =
-      chosen ty (inSigned w64 (x *ℤ pos (2 ^ n))) (value (AbstractInt (x *ℤ pos (2 ^ n)))) (refused (refusal No.ShlOverflow n))
-      (λ e. (h .0, signed-in w64 (x *ℤ pos (2 ^ n)) e)) (λ e. over-left n z)
+      chosen ty (inSigned w64 (x *ℤ pos (2 ^ n))) (value (AbstractInt (x *ℤ pos (2 ^ n)))) (shlOverflow n (AbstractInt x))
+      (λ e. (h .0, signed-in w64 (x *ℤ pos (2 ^ n)) e)) (λ e. over-left n z (AbstractInt x) refl (h .1))
   exact-kept (AbstractFloat x) n z h = no-binary
   exact-kept (I32 x) n z h =
-      chosen ty (shlOver w32 x n) (refused (refusal No.ShlOverflow n)) (value (I32 (x *ℤ pos (2 ^ n)))) (λ e. over-left n z)
+      chosen ty (shlOver w32 x n) (shlOverflow n (I32 x)) (value (I32 (x *ℤ pos (2 ^ n)))) (λ e. over-left n z (I32 x) refl (h .1))
       (λ e. (h .0, signed-in w32 (x *ℤ pos (2 ^ n)) (inside (leb 32 n) (inSigned w32 (x *ℤ pos (2 ^ n))) e)))
   exact-kept (U32 x) n z h =
-      chosen ty (shlOverU w32 x n) (refused (refusal No.ShlOverflow n)) (value (U32 (x * 2 ^ n))) (λ e. over-left n z)
+      chosen ty (shlOverU w32 x n) (shlOverflow n (U32 x)) (value (U32 (x * 2 ^ n))) (λ e. over-left n z (U32 x) refl (h .1))
       (λ e. (h .0, record { fits = ltb-true (x * 2 ^ n) 4294967296 (inside (leb 32 n) (inUnsigned w32 (x * 2 ^ n)) e) }))
   exact-kept (F32 x) n z h = no-binary
   exact-kept (F16 x) n z h = no-binary
@@ -327,8 +336,10 @@ module _ (ty : ℕ) where
   floor-kept (bool x) n z h = no-binary
   floor-kept (AbstractInt x) n z h = (h .0, sfits-le (mag-shr x (2 ^ n)) (h .1))
   floor-kept (AbstractFloat x) n z h = no-binary
-  floor-kept (I32 x) n z h = chosen ty (ltb 31 n) (refused (refusal No.ShrOverflow n)) (value (I32 (shrZ x (2 ^ n)))) (λ e. over-right n z) (λ e. (h .0, sfits-le (mag-shr x (2 ^ n)) (h .1)))
-  floor-kept (U32 x) n z h = chosen ty (ltb 31 n) (refused (refusal No.ShrOverflow n)) (value (U32 (x / 2 ^ n))) (λ e. over-right n z) (λ e. (h .0, fits-div x (2 ^ n) (h .1)))
+  floor-kept (I32 x) n z h =
+      chosen ty (ltb 31 n) (shrOverflow n (I32 x)) (value (I32 (shrZ x (2 ^ n)))) (λ e. over-right n z (I32 x) refl (h .1)) (λ e. (h .0, sfits-le (mag-shr x (2 ^ n)) (h .1)))
+  floor-kept (U32 x) n z h =
+      chosen ty (ltb 31 n) (shrOverflow n (U32 x)) (value (U32 (x / 2 ^ n))) (λ e. over-right n z (U32 x) refl (h .1)) (λ e. (h .0, fits-div x (2 ^ n) (h .1)))
   floor-kept (F32 x) n z h = no-binary
   floor-kept (F16 x) n z h = no-binary
 

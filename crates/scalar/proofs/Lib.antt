@@ -6,6 +6,7 @@ pub mod Promises
 pub mod Rights
 pub mod Reread
 pub mod Righted
+pub mod Carried
 pub mod Operators
 pub mod Nans
 pub mod Single

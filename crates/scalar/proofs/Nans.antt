@@ -31,7 +31,7 @@ use Rattle.value.specs.declared.Found.{Found}
 use Rattle.value.specs.declared.Found.the-variants.{Value, Nothing}
 use Rattle.value.specs.declared.Pair.{Pair}
 use Rattle.value.specs.declared.Pair.the-variants as P
-use Rattle.value.specs.Answer.{Result, value, refused, answerOf, unary, binary, strict}
+use Rattle.value.specs.Answer.{Result, value, refused, shiftRefused, answerOf, unary, binary, strict}
 use Rattle.value.specs.Pattern.{pick, nanPattern, keptOf}
 use Rattle.value.specs.Scalar.{finiteOf, keptScalar}
 use Rattle.value.proofs.Sound.{Sound, kept-once}
@@ -50,6 +50,7 @@ use Rattle.scalar.proofs.Promises.{entry}
 abbrev pub KeptNan : Result → Type 0
 KeptNan (value s) = keptScalar s ≡ s
 KeptNan (refused r) = Unit {0}
+KeptNan (shiftRefused n d l) = keptScalar l ≡ l
 
 -- whichever of two
 one-of : (t : Bool) (a b : Result) → KeptNan a → KeptNan b → KeptNan (pick t a b)
@@ -208,10 +209,10 @@ shl-nan : (stage : ShaderStage) (s : Scalar) (n : ℕ) → KeptNan (shlBy stage 
 shl-nan stage s n =
     elim s [
       | bool x ↦ one-of (strict stage) _ _ tt tt
-      | AbstractInt x ↦ one-of (strict stage) _ _ (one-of (inSigned w64 (x *ℤ pos (2 ^ n))) (value (AbstractInt (x *ℤ pos (2 ^ n)))) (shlOverflow n) refl tt) refl
+      | AbstractInt x ↦ one-of (strict stage) _ _ (one-of (inSigned w64 (x *ℤ pos (2 ^ n))) (value (AbstractInt (x *ℤ pos (2 ^ n)))) (shlOverflow n (AbstractInt x)) refl refl) refl
       | AbstractFloat x ↦ one-of (strict stage) _ _ tt tt
-      | I32 x ↦ one-of (strict stage) _ _ (one-of (shlOver w32 x n) (shlOverflow n) (value (I32 (x *ℤ pos (2 ^ n)))) tt refl) refl
-      | U32 x ↦ one-of (strict stage) _ _ (one-of (shlOverU w32 x n) (shlOverflow n) (value (U32 (x * 2 ^ n))) tt refl) refl
+      | I32 x ↦ one-of (strict stage) _ _ (one-of (shlOver w32 x n) (shlOverflow n (I32 x)) (value (I32 (x *ℤ pos (2 ^ n)))) refl refl) refl
+      | U32 x ↦ one-of (strict stage) _ _ (one-of (shlOverU w32 x n) (shlOverflow n (U32 x)) (value (U32 (x * 2 ^ n))) refl refl) refl
       | F32 x ↦ one-of (strict stage) _ _ tt tt
       | F16 x ↦ one-of (strict stage) _ _ tt tt
     ]
@@ -222,8 +223,8 @@ shr-nan stage s n =
       | bool x ↦ one-of (strict stage) _ _ tt tt
       | AbstractInt x ↦ one-of (strict stage) _ _ refl refl
       | AbstractFloat x ↦ one-of (strict stage) _ _ tt tt
-      | I32 x ↦ one-of (strict stage) _ _ (one-of (leb 32 n) (shrOverflow n) (value (I32 (shrZ x (2 ^ n)))) tt refl) refl
-      | U32 x ↦ one-of (strict stage) _ _ (one-of (leb 32 n) (shrOverflow n) (value (U32 (x / 2 ^ n))) tt refl) refl
+      | I32 x ↦ one-of (strict stage) _ _ (one-of (leb 32 n) (shrOverflow n (I32 x)) (value (I32 (shrZ x (2 ^ n)))) refl refl) refl
+      | U32 x ↦ one-of (strict stage) _ _ (one-of (leb 32 n) (shrOverflow n (U32 x)) (value (U32 (x / 2 ^ n))) refl refl) refl
       | F32 x ↦ one-of (strict stage) _ _ tt tt
       | F16 x ↦ one-of (strict stage) _ _ tt tt
     ]

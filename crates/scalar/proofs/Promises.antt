@@ -30,7 +30,7 @@ use Rattle.scalar.specs.declared.Step.{Step}
 use Rattle.scalar.specs.declared.Step.the-variants as S
 use Rattle.scalar.specs.declared.Conv.{Conv}
 use Rattle.scalar.specs.declared.Conv.the-variants as C
-use Rattle.value.specs.Answer.{Result, value, refused, unary, binary, stageOf}
+use Rattle.value.specs.Answer.{Result, value, refused, shiftRefused, unary, binary, stageOf}
 use Rattle.value.specs.Pattern.{pick, properOf, keptOf}
 use Rattle.value.specs.Scalar.{typeOf, finiteOf, bitsOf, keptScalar, scalarOf}
 use Rattle.conversion.specs.Convert.{stands, convertTo, targets, inNatural, floatToF32, floatToF16}
@@ -62,6 +62,7 @@ fine ty s k = subst (λ (t : ℕ). Fine t (bitsOf s)) (k .0) (bits-proper s (k .
 steps : (ty : ℕ) (r : Result) → Kept ty r → Stepped ty (stepped r)
 steps ty (value s) k = (k .0, fine ty s k)
 steps ty (refused r) k = k
+steps ty (shiftRefused n d l) k = k
 
 -- ---- the entries of a table, one after the other
 abbrev pub Entries : {X : Type 0} → (ℕ → X → Type 0) → List X → Type 0 → Type 0

@@ -30,7 +30,7 @@ use Rattle.value.specs.declared.ShaderStage.{ShaderStage}
 use Rattle.value.specs.declared.Found.{Found}
 use Rattle.value.specs.declared.Found.the-variants.{Value, Nothing}
 use Rattle.value.specs.declared.Pair.the-variants as P
-use Rattle.value.specs.Answer.{Result, value, refused, refusal, binary, stageOf, strict}
+use Rattle.value.specs.Answer.{Result, value, refused, shiftRefused, refusal, binary, stageOf, strict}
 use Rattle.value.specs.Pattern.{pick, properOf, keptOf}
 use Rattle.value.specs.Pair.{bothOf}
 use Rattle.value.specs.Scalar.{finiteOf, keptScalar, scalarAt, scalarOf}
@@ -47,6 +47,7 @@ use Rattle.scalar.proofs.Reread.{rightType}
 abbrev Own : Result → Type 0
 Own (value s) = Unit {0}
 Own (refused r) = r .number ≡ 2 → ⊥
+Own (shiftRefused n d l) = n ≡ 2 → ⊥
 
 abbrev pub OwnStep : Step → Type 0
 OwnStep (S.Bits t b) = Unit {0}
@@ -55,6 +56,7 @@ OwnStep (S.Refused r) = r .number ≡ 2 → ⊥
 own-step : (r : Result) → Own r → OwnStep (stepped r)
 own-step (value s) h = tt
 own-step (refused r) h = h
+own-step (shiftRefused n d l) h = h
 
 own-one : (t : Bool) (a b : Result) → Own a → Own b → Own (pick t a b)
 own-one true a b h k = h
@@ -157,24 +159,24 @@ module _ (op : ℕ) (k : op < 17) (stage : ShaderStage) where
 
 -- ---- shifts of integers by a U32
 module _ (stage : ShaderStage) (n : ℕ) where
-  over : (k : ℕ) → 4 ≤ k → Own (refused (refusal k n))
-  over k h = λ e. omega (arith, h, e)
+  over : (k : ℕ) (l : Scalar) → 4 ≤ k → Own (shiftRefused k n l)
+  over k l h = λ e. omega (arith, h, e)
 
   left-own : (ty l : ℕ) → rightOf 17 ty ≡ true → Own (shiftOf 17 stage (scalarAt ty l) (Value (U32 n)))
   left-own ty l =
       by-code (λ ty. rightOf 17 ty ≡ true → Own (shiftOf 17 stage (scalarAt ty l) (Value (U32 n)))) none
       (λ q. let x = toZ w64 l in
-      own-one (strict stage) _ _ (own-one (inSigned w64 (x *ℤ pos (2 ^ n))) (value (AbstractInt (x *ℤ pos (2 ^ n)))) (shlOverflow n) tt (over 9 (omega arith))) tt) none
-      (λ q. let x = toZ w32 l in own-one (strict stage) _ _ (own-one (shlOver w32 x n) (shlOverflow n) (value (I32 (x *ℤ pos (2 ^ n)))) (over 9 (omega arith)) tt) tt)
-      (λ q. own-one (strict stage) _ _ (own-one (shlOverU w32 l n) (shlOverflow n) (value (U32 (l * 2 ^ n))) (over 9 (omega arith)) tt) tt) none none
+      own-one (strict stage) _ _ (own-one (inSigned w64 (x *ℤ pos (2 ^ n))) (value (AbstractInt (x *ℤ pos (2 ^ n)))) (shlOverflow n (AbstractInt x)) tt (over 9 (AbstractInt x) (omega arith))) tt) none
+      (λ q. let x = toZ w32 l in own-one (strict stage) _ _ (own-one (shlOver w32 x n) (shlOverflow n (I32 x)) (value (I32 (x *ℤ pos (2 ^ n)))) (over 9 (I32 x) (omega arith)) tt) tt)
+      (λ q. own-one (strict stage) _ _ (own-one (shlOverU w32 l n) (shlOverflow n (U32 l)) (value (U32 (l * 2 ^ n))) (over 9 (U32 l) (omega arith)) tt) tt) none none
       (λ k. none) ty
 
   right-own : (ty l : ℕ) → rightOf 18 ty ≡ true → Own (shiftOf 18 stage (scalarAt ty l) (Value (U32 n)))
   right-own ty l =
       by-code (λ ty. rightOf 18 ty ≡ true → Own (shiftOf 18 stage (scalarAt ty l) (Value (U32 n)))) none
       (λ q. own-one (strict stage) _ _ tt tt) none
-      (λ q. own-one (strict stage) _ _ (own-one (leb 32 n) (shrOverflow n) (value (I32 (shrZ (toZ w32 l) (2 ^ n)))) (over 10 (omega arith)) tt) tt)
-      (λ q. own-one (strict stage) _ _ (own-one (leb 32 n) (shrOverflow n) (value (U32 (l / 2 ^ n))) (over 10 (omega arith)) tt) tt) none none
+      (λ q. let x = toZ w32 l in own-one (strict stage) _ _ (own-one (leb 32 n) (shrOverflow n (I32 x)) (value (I32 (shrZ x (2 ^ n)))) (over 10 (I32 x) (omega arith)) tt) tt)
+      (λ q. own-one (strict stage) _ _ (own-one (leb 32 n) (shrOverflow n (U32 l)) (value (U32 (l / 2 ^ n))) (over 10 (U32 l) (omega arith)) tt) tt) none none
       (λ k. none) ty
 
   shift-own : (op ty l : ℕ) → 17 ≤ op → rightOf op ty ≡ true → Own (shiftOf op stage (scalarAt ty l) (Value (U32 n)))

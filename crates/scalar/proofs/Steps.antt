@@ -1,10 +1,8 @@
 -- A step, from what its calls promise. Assumes nothing.
 use Prim.Native.Nat.{ℕ, _<_, _≤_}
 use mathlib.Core.Path.{_≡_, refl, sym, ap, _∙_}
-use mathlib.Core.List.{[], _∷_}
+use native.Mathlib.Omega.{arith}
 use borrow.Author.Tests.{le-leb, lt-leb}
-use types.Run.{OneOf, miss}
-use denote.Enum.Declared.{tagOf}
 use Rattle.types.proofs.Choice.{picked, passed}
 use Rattle.value.specs.declared.Scalar.{Scalar}
 use Rattle.value.specs.declared.ShaderStage.{ShaderStage}
@@ -13,15 +11,14 @@ use Rattle.value.specs.declared.Found.the-variants.{Value, Nothing}
 use Rattle.value.specs.declared.Pair.{Pair}
 use Rattle.value.specs.declared.Answer.{Answer}
 use Rattle.value.specs.declared.Answer.the-variants as A
-use Rattle.value.specs.Answer.{Result, refusal, answerOf, unary, stageOf}
+use Rattle.value.specs.Answer.{Result, answerOf, numberOf, detailOf, scalarIn, unary, stageOf}
 use Rattle.value.specs.Pair.{bothOf}
-use Rattle.value.specs.Scalar.{bitsOf, scalarOf}
-use Rattle.value.proofs.Answer.{the-type}
+use Rattle.value.specs.Scalar.{typeOf, bitsOf, scalarOf}
 use Rattle.conversion.specs.Convert.{convertTo}
 use Rattle.scalar.specs.declared.Step.{Step}
 use Rattle.scalar.specs.declared.Step.the-variants as S
 use Rattle.scalar.specs.declared.Conv.the-variants as C
-use Rattle.scalar.specs.Step.{onScalar, unaryOf, unaryStepOf, shiftOf, binaryOf, stepped, stepOf, converted, onFound, convOf, numberOf}
+use Rattle.scalar.specs.Step.{onScalar, unaryOf, unaryStepOf, shiftOf, binaryOf, stepped, stepOf, converted, onFound, convOf}
 
 -- ---- a step
 module _ (op stage ty l r : ℕ) {at : ShaderStage} {a : Result} {s : Step} (e : at ≡ stageOf stage) where
@@ -33,22 +30,39 @@ module _ (op stage ty l r : ℕ) {at : ShaderStage} {a : Result} {s : Step} (e :
   unfolding stepOf
   by-pair h b m n = n ∙ ap stepped (m ∙ (λ i. binaryOf op (e i) (b i))) ∙ passed _ _ (lt-leb 17 op h)
 
--- a refusal that is no shift's has no detail
-pub plain-refusal : (a : Answer) {n : ℕ} {s : Step} → OneOf (1 ∷ 2 ∷ 3 ∷ 4 ∷ 5 ∷ 6 ∷ 7 ∷ []) (tagOf the-type a) → n ≡ numberOf (answerOf a)
-    → s ≡ S.Refused (refusal n 0) → s ≡ stepped (answerOf a)
-plain-refusal a o e h = h ∙ ap (λ (n : ℕ). S.Refused (refusal n 0)) e ∙ plain a o
-  where
-    plain : (a : Answer) → OneOf (1 ∷ 2 ∷ 3 ∷ 4 ∷ 5 ∷ 6 ∷ 7 ∷ []) (tagOf the-type a) → S.Refused (refusal (numberOf (answerOf a)) 0) ≡ stepped (answerOf a)
-    plain (A.Value s) o = absurd (miss (1 ∷ 2 ∷ 3 ∷ 4 ∷ 5 ∷ 6 ∷ 7 ∷ []) 0 tt o)
-    plain A.Unary o = refl
-    plain A.Binary o = refl
-    plain A.AddOverflow o = refl
-    plain A.SubOverflow o = refl
-    plain A.MulOverflow o = refl
-    plain A.DivByZero o = refl
-    plain A.RemZeroDiv o = refl
-    plain (A.ShlOverflow n) o = absurd (miss (1 ∷ 2 ∷ 3 ∷ 4 ∷ 5 ∷ 6 ∷ 7 ∷ []) 8 tt o)
-    plain (A.ShrOverflow n) o = absurd (miss (1 ∷ 2 ∷ 3 ∷ 4 ∷ 5 ∷ 6 ∷ 7 ∷ []) 9 tt o)
+-- a step from an answer's number, detail and scalar: a value has the number 0
+module _ (a : Answer) {s : Scalar} {t b n : ℕ} (es : s ≡ scalarIn (answerOf a)) (et : t ≡ typeOf s) (eb : b ≡ bitsOf s) (en : n ≡ numberOf (answerOf a)) where
+  pub has-value : n ≡ 0 → S.Bits t b ≡ stepped (answerOf a)
+  has-value z = rw (et, eb, es) (go a (sym en ∙ z))
+    where
+      go : (a : Answer) → numberOf (answerOf a) ≡ 0 → S.Bits (typeOf (scalarIn (answerOf a))) (bitsOf (scalarIn (answerOf a))) ≡ stepped (answerOf a)
+      go (A.Value v) z = refl
+      go A.Unary z = absurd (omega (arith, z))
+      go A.Binary z = absurd (omega (arith, z))
+      go A.AddOverflow z = absurd (omega (arith, z))
+      go A.SubOverflow z = absurd (omega (arith, z))
+      go A.MulOverflow z = absurd (omega (arith, z))
+      go A.DivByZero z = absurd (omega (arith, z))
+      go A.RemZeroDiv z = absurd (omega (arith, z))
+      go (A.ShlOverflow c l) z = absurd (omega (arith, z))
+      go (A.ShrOverflow c l) z = absurd (omega (arith, z))
+
+  pub has-none : {d : ℕ} → (n ≡ 0 → ⊥) → d ≡ detailOf (answerOf a) → S.Refused (record { number = n; detail = d; ty = t; bits = b }) ≡ stepped (answerOf a)
+  has-none z ed = rw (et, eb, es, ed, en) (go a (λ e. z (en ∙ e)))
+    where
+      go : (a : Answer) → (numberOf (answerOf a) ≡ 0 → ⊥)
+          → S.Refused (record { number = numberOf (answerOf a); detail = detailOf (answerOf a); ty = typeOf (scalarIn (answerOf a)); bits = bitsOf (scalarIn (answerOf a)) })
+          ≡ stepped (answerOf a)
+      go (A.Value v) z = absurd (z refl)
+      go A.Unary z = refl
+      go A.Binary z = refl
+      go A.AddOverflow z = refl
+      go A.SubOverflow z = refl
+      go A.MulOverflow z = refl
+      go A.DivByZero z = refl
+      go A.RemZeroDiv z = refl
+      go (A.ShlOverflow c l) z = refl
+      go (A.ShrOverflow c l) z = refl
 
 -- one operand
 pub by-scalar : (op ty v : ℕ) {f : Found} {a : Result} {s : Step} → f ≡ scalarOf ty v → a ≡ onScalar f (unaryOf op) unary → s ≡ stepped a

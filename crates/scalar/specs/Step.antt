@@ -5,6 +5,7 @@ use lib.Dec.{eqb, leb}
 use lib.ListN.{getD}
 use Rattle.value.specs.declared.Scalar.{Scalar}
 use Rattle.value.specs.declared.ShaderStage.{ShaderStage}
+use Rattle.value.specs.declared.Refusal.{Refusal}
 use Rattle.value.specs.declared.Found.{Found}
 use Rattle.value.specs.declared.Found.the-variants as F
 use Rattle.value.specs.declared.Pair.{Pair}
@@ -13,7 +14,7 @@ use Rattle.scalar.specs.declared.Step.the-variants as S
 use Rattle.scalar.specs.declared.Conv.{Conv}
 use Rattle.scalar.specs.declared.Conv.the-variants as C
 pub use Rattle.value.specs.Answer.{refusal}
-use Rattle.value.specs.Answer.{Result, value, refused, unary, binary, stageOf}
+use Rattle.value.specs.Answer.{Result, value, refused, shiftRefused, unary, binary, stageOf}
 use Rattle.value.specs.Pattern.{pick}
 use Rattle.value.specs.Scalar.{typeOf, bitsOf, scalarOf}
 use Rattle.conversion.specs.Convert.{convertTo, commonOf}
@@ -24,10 +25,15 @@ use Rattle.bitwise.specs.Bits.{bitNotOf, bitOrOf, bitAndOf, bitXorOf}
 use Rattle.relation.specs.Comparison.{eqOf, neOf, ltOf, leOf, gtOf, geOf}
 use Rattle.bitwise.specs.Shift.{shlOf, shrOf}
 
+-- a shift's refusal by codes: its number, the count, and the type and bits of the left operand
+abbrev pub carrying : ℕ → ℕ → Scalar → Refusal
+carrying n d l = record { number = n; detail = d; ty = typeOf l; bits = bitsOf l }
+
 -- a result as a type and bits, or a refusal
 abbrev pub stepped : Result → Step
 stepped (value s) = S.Bits (typeOf s) (bitsOf s)
 stepped (refused r) = S.Refused r
+stepped (shiftRefused n d l) = S.Refused (carrying n d l)
 
 -- "1 `!`, 2 `-`, 3 `~`"
 abbrev pub unaries : Scalar → List Result
@@ -89,9 +95,3 @@ onFound F.Nothing f = C.Nothing
 
 unfoldable pub convOf : ℕ → ℕ → ℕ → Conv
 convOf from to b = onFound (scalarOf from b) (λ s. converted (convertTo to s))
-
--- ---- for the contracts of private functions
--- the number of a refusal; 0 for a value
-abbrev pub numberOf : Result → ℕ
-numberOf (value s) = 0
-numberOf (refused r) = r .number

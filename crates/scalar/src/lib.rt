@@ -12,11 +12,11 @@ use value::Pair;
 use value::Refusal;
 use value::ShaderStage;
 use value::pattern;
-use value::refusals;
+use value::said;
 use value::stage_of;
 ghost use mathlib.Core.Path.{_≡_};
 ghost use Rattle.value.specs.Answer.{answerOf, refusal, unary};
-ghost use Rattle.scalar.specs.Step.{binaryOf, convOf, numberOf, onScalar, productAdded, shiftOf, stepOf, stepped, unaryOf, unaryStepOf};
+ghost use Rattle.scalar.specs.Step.{binaryOf, convOf, onScalar, productAdded, shiftOf, stepOf, stepped, unaryOf, unaryStepOf};
 
 // One operation: the result's type and bits, or a refusal.
 pub enum Step {
@@ -34,37 +34,31 @@ pub enum Conv {
 fn refuse(number: u8, detail: u32) -> Step
     ensures { λ r. ⌜ r ≡ Step.Refused (refusal number detail) ⌝ }
 {
-    Step::Refused(Refusal { number, detail })
+    Step::Refused(Refusal {
+        number,
+        detail,
+        ty: 0,
+        bits: 0,
+    })
 }
 
-// The number of a refusal; 0 for a value.
-fn number(a: Answer) -> u8
-    ensures { λ r. ⌜ r ≡ numberOf (answerOf a) ⌝ }
-{
-    match a {
-        Answer::Value(_) => 0,
-        Answer::Unary => refusals::UNARY,
-        Answer::Binary => refusals::BINARY,
-        Answer::AddOverflow => refusals::ADD_OVERFLOW,
-        Answer::SubOverflow => refusals::SUB_OVERFLOW,
-        Answer::MulOverflow => refusals::MUL_OVERFLOW,
-        Answer::DivByZero => refusals::DIV_BY_ZERO,
-        Answer::RemZeroDiv => refusals::REM_ZERO_DIV,
-        Answer::ShlOverflow(_) => refusals::SHL_OVERFLOW,
-        Answer::ShrOverflow(_) => refusals::SHR_OVERFLOW,
-    }
-}
-
-// An answer as a step; only a shift's refusal has a detail.
+// An answer as a step. Type and bits are asked for in one place, which keeps this small enough to be part of its callers.
 fn step_of(a: Answer) -> Step
     ensures { λ r. ⌜ r ≡ stepped (answerOf a) ⌝ }
 {
-    match a {
-        Answer::Value(s) => Step::Bits(value::type_of(s), pattern::bits_of(s)),
-        Answer::ShlOverflow(n) => refuse(refusals::SHL_OVERFLOW, n),
-        Answer::ShrOverflow(n) => refuse(refusals::SHR_OVERFLOW, n),
-        _ => refuse(number(a), 0),
+    let s = said::scalar_in(a);
+    let ty = value::type_of(s);
+    let bits = pattern::bits_of(s);
+    let number = said::number(a);
+    if number == 0 {
+        return Step::Bits(ty, bits);
     }
+    Step::Refused(Refusal {
+        number,
+        detail: said::detail(a),
+        ty,
+        bits,
+    })
 }
 
 // A binary operator but a shift, by its code, on two operands of one type. Arithmetic, which is asked for most, is tested for first.

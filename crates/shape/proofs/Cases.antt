@@ -11,7 +11,7 @@ use Rattle.components.specs.Components.{allOrRefusal}
 use Rattle.products.specs.Products.{sumTo}
 use Rattle.pairing.specs.Pairing.{targetsOf}
 use Rattle.types.specs.Types.{commonType}
-use Rattle.operand.specs.Outcome.{refusedWith, valueOf}
+use Rattle.operand.specs.Outcome.{refusedWith, refusedOn, valueOf}
 use Rattle.dispatch.specs.Meaning.{byComponent, matrixProduct, onConverted, convertedTo, judged, binaryMeaning}
 use Rattle.operand.specs.declared.Instance.{Instance}
 use Rattle.operand.specs.declared.Outcome.{Outcome}
@@ -51,11 +51,11 @@ cases =
     ∷ case 7 1 (one 3 7) (one 3 0) (refusedWith 8 0)
     ∷ case 7 2 (one 3 7) (one 3 0) (valueOf (one 3 0))
     -- U32 1 << 32: Const 9, Exec 1
-    ∷ case 17 0 (one 4 1) (one 4 32) (refusedWith 9 32)
+    ∷ case 17 0 (one 4 1) (one 4 32) (refusedOn 9 32 (one 4 1))
     ∷ case 17 2 (one 4 1) (one 4 32) (valueOf (one 4 1))
     -- I32 -1 << 31: Const minimum; 1 << 31: Const 9
     ∷ case 17 0 (one 3 0xFFFFFFFF) (one 4 31) (valueOf (one 3 0x80000000))
-    ∷ case 17 0 (one 3 1) (one 4 31) (refusedWith 9 31)
+    ∷ case 17 0 (one 3 1) (one 4 31) (refusedOn 9 31 (one 3 1))
     -- AbstractInt -5 >> 65 = -1
     ∷ case 18 0 (one 1 0xFFFFFFFFFFFFFFFB) (one 4 65) (valueOf (one 1 0xFFFFFFFFFFFFFFFF))
     -- Bool true >> 0: Binary

@@ -11,7 +11,6 @@ use Rattle.value.specs.declared.Scalar.{Scalar}
 use Rattle.value.specs.declared.Scalar.the-variants.{Bool as bool, AbstractInt, AbstractFloat, I32, U32, F32, F16}
 use Rattle.value.specs.declared.Found.{Found}
 use Rattle.value.specs.declared.Found.the-variants.{Value, Nothing}
-use Rattle.value.specs.declared.Refusal.{Refusal}
 use Rattle.value.specs.Answer.{Result, stageOf}
 use Rattle.value.specs.Pattern.{pick}
 use Rattle.value.specs.Pair.{bothOf}
@@ -29,7 +28,7 @@ use Rattle.scalar.proofs.Operators.{operator-common, operator-shift, unary-back
 use Rattle.operand.specs.declared.Instance.{Instance}
 use Rattle.operand.specs.declared.Outcome.{Outcome}
 use Rattle.operand.specs.Operand.{operandFormed, aScalar}
-use Rattle.operand.specs.Outcome.{refusedWith}
+use Rattle.operand.specs.Outcome.{refusedAs}
 use Rattle.operand.proofs.Shapes.{formed-one}
 use Rattle.components.specs.Components.{stepResult, convResult}
 use Rattle.pairing.specs.declared.Targets.the-variants as T
@@ -124,8 +123,7 @@ unary-judged op ty b = go (unaryStepOf op ty b) refl (unary-answers op ty b) (un
   where
     go : (s : Step) → unaryStepOf op ty b ≡ s → Stepped ty s → Righted (unaryRightOf op ty) s → stepAnswer s ≡ unaryJudged op (aScalar ty b)
     go (S.Bits t x) e k q = unary-bits op ty b (unaryStepOf op ty b) refl (scalarAnswer t x) t x e (ap (λ (t : ℕ). scalarAnswer t x) (k .0))
-    go (S.Refused r) e k q =
-        unary-refused op ty b (unaryStepOf op ty b) refl (refusedWith (r .number) (r .detail)) r e (ap (λ (r : Refusal). refusedWith (r .number) (r .detail)) q)
+    go (S.Refused r) e k q = unary-refused op ty b (unaryStepOf op ty b) refl (refusedAs r) r e (ap refusedAs q)
 
 pub direct-unary : (op stage : ℕ) (s : Scalar) → Sound s
     → unaryMeaning op stage (operandOf s) ≡ refuseUnless (unaryKnown op) No.BadNode (refuseUnless (stageKnown stage) No.BadStage (resultAnswer (unaryOf op s)))

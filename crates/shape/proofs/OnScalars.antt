@@ -20,7 +20,7 @@ use Rattle.operand.specs.Operand.{shapeOk, shapeOf, isScalar, isMatrix, compone
 use Rattle.low.specs.Bytes.{upTo}
 use Rattle.components.specs.Components.{Out, got, stop, allOrRefusal, eachComponent, stepResult, convResult, binaryAt, unaryAt, lane, convertedAt}
 use Rattle.pairing.specs.Pairing.{opKnown, unaryKnown, stageKnown, innerOk, sameShape, pairOk, targetsOf}
-use Rattle.operand.specs.Outcome.{refusedWith}
+use Rattle.operand.specs.Outcome.{refusedWith, refusedAs}
 use Rattle.dispatch.specs.Meaning.{refuseUnless, onResult, shapedAnswer, matrixProduct, byComponent, onConverted, convertedTo, onTargets, judged, unaryJudged, unaryMeaning, binaryMeaning}
 use Rattle.shape.specs.Scalars.{scalarAnswer, stepAnswer, onScalars}
 use Rattle.operand.specs.declared.Instance.{Instance}
@@ -121,8 +121,8 @@ module _ (op ty b : ℕ) (s : Step) (e : s ≡ unaryStepOf op ty b) (v : Outcome
   pub unary-refused : (r : Refusal) → s ≡ S.Refused r → v ≡ refusedWith No.Unary 0 → v ≡ unaryJudged op (aScalar ty b)
   unary-refused r h q = q ∙ go (unaryRightOf op ty) (righted op ty b s e (S.Refused r) h) ∙ unary-step op ty b s e (S.Refused r) h
     where
-      go : (t : Bool) → r ≡ refusal No.Unary 0 → refusedWith No.Unary 0 ≡ refuseUnless t No.Unary (refusedWith (r .number) (r .detail))
-      go true k = ap (λ (r : Refusal). refusedWith (r .number) (r .detail)) (sym k)
+      go : (t : Bool) → r ≡ refusal No.Unary 0 → refusedWith No.Unary 0 ≡ refuseUnless t No.Unary (refusedAs r)
+      go true k = ap refusedAs (sym k)
       go false k = refl
 
   pub unary-bits : (t x : ℕ) → s ≡ S.Bits t x → v ≡ scalarAnswer ty x → v ≡ unaryJudged op (aScalar ty b)

@@ -3,7 +3,7 @@ use Prim.Native.Nat.{ℕ}
 use Rattle.scalar.specs.declared.Step.{Step}
 use Rattle.scalar.specs.declared.Step.the-variants as S
 use Rattle.operand.specs.Operand.{shapeOf, aScalar}
-use Rattle.operand.specs.Outcome.{refusedWith, valueOf}
+use Rattle.operand.specs.Outcome.{refusedAs, valueOf}
 use Rattle.operand.specs.declared.Outcome.{Outcome}
 use Rattle.dispatch.specs.Meaning.{onConverted}
 
@@ -14,7 +14,7 @@ scalarAnswer ty b = valueOf (aScalar ty b)
 -- one step as an answer
 abbrev pub stepAnswer : Step → Outcome
 stepAnswer (S.Bits t b) = scalarAnswer t b
-stepAnswer (S.Refused r) = refusedWith (r .number) (r .detail)
+stepAnswer (S.Refused r) = refusedAs r
 
 -- two converted scalars
 abbrev pub onScalars : ℕ → ℕ → ℕ → ℕ → ℕ → Outcome

@@ -1,8 +1,8 @@
 // An operator on scalars, which go by their types and patterns and without arrays: the checks of `unary` and `binary` in their order.
-use operand::Instance;
 use operand::Outcome;
 use operand::answered;
-use operand::refused;
+use operand::refused_as;
+use operand::scalar;
 use pairing::Targets;
 use pairing::op_known;
 use pairing::stage_known;
@@ -18,26 +18,17 @@ ghost use Rattle.scalar.specs.Step.{refusal};
 ghost use Rattle.operand.specs.Operand.{operandFormed, aScalar};
 ghost use Rattle.pairing.specs.Pairing.{targetsOf};
 ghost use Rattle.dispatch.specs.Meaning.{convertedTo, judged, unaryMeaning, binaryMeaning};
-ghost use Rattle.shape.specs.Scalars.{scalarAnswer, stepAnswer, onScalars};
+ghost use Rattle.shape.specs.Scalars.{stepAnswer, onScalars};
 
-// A refusal without a detail, as a step.
+// A refusal without a detail and an operand, as a step.
 fn refuse(number: u8) -> Step
     ensures { λ s. ⌜ s ≡ Step.Refused (refusal number 0) ⌝ }
 {
-    Step::Refused(Refusal { number, detail: 0 })
-}
-
-// A scalar as an answer.
-fn one(ty: u8, bits: u64) -> Outcome
-    ensures { λ o. ⌜ o ≡ scalarAnswer ty bits ⌝ }
-{
-    let mut comps = [0u64; 16];
-    comps[0] = bits;
-    answered(Instance {
-        ty,
-        cols: 1,
-        rows: 1,
-        comps,
+    Step::Refused(Refusal {
+        number,
+        detail: 0,
+        ty: 0,
+        bits: 0,
     })
 }
 
@@ -46,8 +37,8 @@ pub(crate) fn settled(step: Step) -> Outcome
     ensures { λ o. ⌜ o ≡ stepAnswer step ⌝ }
 {
     match step {
-        Step::Bits(ty, bits) => one(ty, bits),
-        Step::Refused(r) => refused(r.number, r.detail),
+        Step::Bits(ty, bits) => answered(scalar(ty, bits)),
+        Step::Refused(r) => refused_as(r),
     }
 }
 

@@ -12,11 +12,13 @@ use lib.ListN.{getD}
 use lib.Pow.{mod-mod-pow}
 use lib.Seq.{take-at}
 use borrow.Author.Tests.{ltb-true, ltb-false, lt-ltb, le-leb, lt-leb, eqb-true, eqb-false, eq-eqb}
-use Rattle.types.specs.Types.{knownOf, widthOf}
+use Rattle.types.specs.Types.{knownOf, widthOf, integerOf}
 use Rattle.types.specs.Edition.{Edition}
+use Rattle.types.proofs.Rows.{by-code}
+use Rattle.value.specs.Answer.{carries}
 use Rattle.value.specs.Pattern.{pick, properOf, keptOf}
 use Rattle.value.specs.Refusals as No
-use Rattle.operand.proofs.Answers.{Fine, Answers}
+use Rattle.operand.proofs.Answers.{Fine, Carried, Answers}
 use Rattle.operand.specs.declared.Instance.{Instance}
 use Rattle.operand.specs.declared.Outcome.{Outcome}
 use Rattle.operand.specs.Operand.{shapeOk, shapeIn, shapeOf, every, componentAt, operandFormed}
@@ -25,7 +27,7 @@ use Rattle.operand.specs.Outcome.{refusedWith, valueOf}
 use Rattle.low.proofs.Tests.{both, one-of}
 use Rattle.operand.proofs.Shapes.{shape-small, count-small, shape-in}
 use Rattle.operand.proofs.Every.{every-more}
-use Rattle.slot.specs.Slot.{bytesOf, saidBy, slot, each, componentFormed, componentsFormed, valueFormed, blank, detailFormed, formed, wellFormed, referenceTo}
+use Rattle.slot.specs.Slot.{bytesOf, saidBy, slot, each, componentFormed, componentsFormed, valueFormed, blank, integerFormed, besideFormed, detailFormed, formed, wellFormed, referenceTo}
 use Rattle.low.proofs.Lows.{lows-long, whole-cut}
 use Rattle.low.proofs.Eights.{numbers-cut}
 
@@ -40,6 +42,14 @@ or-both {a} {b} {x} {y} f g e = go a x f e
 
 and-both : {a b x y : Bool} → (a ≡ true → x ≡ true) → (b ≡ true → y ≡ true) → (a && b) ≡ true → (x && y) ≡ true
 and-both {a} {b} f g e = let h = both a b e in rw (f (h .0), g (h .1))
+
+none : (a b : Bool) → (a || b) ≡ false → (a ≡ false) × (b ≡ false)
+none true b e = absurd (false≢true (sym e))
+none false b e = (refl, e)
+
+pick-both : (t : Bool) {a b x y : Bool} → (a ≡ true → x ≡ true) → (b ≡ true → y ≡ true) → pick t a b ≡ true → pick t x y ≡ true
+pick-both true f g e = f e
+pick-both false f g e = g e
 
 or-keep : (b : Bool) {a x : Bool} → (a ≡ true → x ≡ true) → (a || b) ≡ true → (x || b) ≡ true
 or-keep b f = or-both f (λ (e : b ≡ true). e)
@@ -135,15 +145,16 @@ comps-cut ty n xs ys cut e = each-all _ 16 (λ i h. rw (cut i h) (go (ltb i n) (
 
 -- ---- a well-formed outcome, once written, is a well-formed slot
 pub written : (e : Edition) (o : Outcome) → formed e o ≡ true → wellFormed e (bytesOf o) ≡ true
-unfolding wellFormed formed valueFormed blank saidBy bytesOf part
+unfolding wellFormed formed valueFormed blank integerFormed saidBy bytesOf part
 written e o =
     or-both
-    (and-both (and-keep (eqb (o .status) 0) zero-detail)
-    (and-keep (shapeIn e (o .value .ty) (o .value .cols) (o .value .rows)) (comps (o .value .ty) (o .value .cols * o .value .rows))))
+    (and-both (and-keep (eqb (o .status) 0) zero-detail) value)
     (and-both
     (and-keep (leb 1 (o .status) && leb (o .status) 11)
-    (or-both (or-keep (eqb (o .status) 10) (or-keep (eqb (o .status) 9) zero-detail)) (and-keep (eqb (o .status) 11) low-detail)))
-    (and-keep (eqb (o .value .ty) 0 && eqb (o .value .cols) 0 && eqb (o .value .rows) 0) (comps 0 0)))
+    (or-both (or-keep (carries (o .status)) zero-detail) (and-keep (eqb (o .status) 11) low-detail)))
+    (pick-both (carries (o .status))
+    (and-keep (integerOf (o .value .ty) && eqb (o .value .cols) 1 && eqb (o .value .rows) 1) value)
+    (and-keep (eqb (o .value .ty) 0 && eqb (o .value .cols) 0 && eqb (o .value .rows) 0) (comps 0 0))))
   where
     h : List ℕ
     h = o .status ∷ o .value .ty ∷ o .value .cols ∷ o .value .rows ∷ lows 4 (o .detail)
@@ -160,6 +171,9 @@ written e o =
     comps : (ty n : ℕ) → componentsFormed ty n (o .value .comps) ≡ true → componentsFormed ty n (numbers 16 (bytesOf o) 8) ≡ true
     comps ty n = comps-cut ty n (o .value .comps) (numbers 16 (bytesOf o) 8) (numbers-cut 16 h (o .value .comps) 8 (omega (arith, lows-long 4 (o .detail))))
 
+    value : valueFormed e (o .value) ≡ true → valueFormed e (saidBy (bytesOf o) .value) ≡ true
+    value = and-keep (shapeIn e (o .value .ty) (o .value .cols) (o .value .rows)) (comps (o .value .ty) (o .value .cols * o .value .rows))
+
 -- ---- which outcomes are well formed
 -- a value of a known type and shape, whose components in use are proper and kept, the others 0
 pub formed-value : (e : Edition) (v : Instance) → shapeIn e (v .ty) (v .cols) (v .rows) ≡ true → ((i : ℕ) → i < v .cols * v .rows → Fine (v .ty) (getD (v .comps) i 0))
@@ -167,10 +181,30 @@ pub formed-value : (e : Edition) (v : Instance) → shapeIn e (v .ty) (v .cols) 
 unfolding formed
 formed-value e v h used rest = rw (value-kept e v h used rest)
 
--- a refusal by a number from 1 to 11 with such a detail
-refusal-formed : (e : Edition) (n d : ℕ) → 1 ≤ n → n ≤ 11 → detailFormed n d ≡ true → formed e (refusedWith n d) ≡ true
-unfolding formed blank componentsFormed componentFormed each
-refusal-formed e n d lo hi h = rw (le-leb 1 n lo, le-leb n 11 hi, h) (or-true (eqb n 0 && eqb d 0 && valueFormed e (refusedWith n d .value)))
+-- a refusal by a number from 1 to 11 with such a detail, beside what may stand there
+refusal-formed : (e : Edition) (o : Outcome) → 1 ≤ o .status → o .status ≤ 11 → detailFormed (o .status) (o .detail) ≡ true → besideFormed e (o .status) (o .value) ≡ true
+    → formed e o ≡ true
+unfolding formed
+refusal-formed e o lo hi h k =
+    rw (le-leb 1 (o .status) lo, le-leb (o .status) 11 hi, h, k) (or-true (eqb (o .status) 0 && eqb (o .detail) 0 && valueFormed e (o .value)))
+
+-- one that carries nothing, beside zeros
+zeros-formed : (e : Edition) (n d : ℕ) → carries n ≡ false → 1 ≤ n → n ≤ 11 → detailFormed n d ≡ true → formed e (refusedWith n d) ≡ true
+unfolding blank componentsFormed componentFormed each
+zeros-formed e n d c lo hi h = refusal-formed e (refusedWith n d) lo hi h (rw c)
+
+-- an integer as a scalar is one that a shift's refusal carries
+one-shaped : (ty : ℕ) → integerOf ty ≡ true → shapeOk ty 1 1 ≡ true
+one-shaped =
+    by-code (λ ty. integerOf ty ≡ true → shapeOk ty 1 1 ≡ true) (λ e. refl) (λ e. refl) (λ e. refl) (λ e. refl) (λ e. refl) (λ e. refl) (λ e. refl)
+    (λ n e. absurd (false≢true e))
+
+integer-kept : (e : Edition) (v : Instance) → Carried v → integerFormed e v ≡ true
+unfolding integerFormed valueFormed componentsFormed componentFormed each
+integer-kept e v c =
+    let b : ℕ = getD (v .comps) 0 0 in
+    ap (integerFormed e) (c .alone)
+    ∙ rw (c .integer, shape-in e (v .ty) 1 1, one-shaped (v .ty) (c .integer), c .fine .0, eq-eqb (keptOf (v .ty) b) b (c .fine .1))
 
 -- whatever an operator answers
 pub answers-formed : (e : Edition) (o : Outcome) → Answers o → formed e o ≡ true
@@ -178,12 +212,15 @@ unfolding formed
 answers-formed e o (inl a) =
     let shape = shape-in e (o .value .ty) (o .value .cols) (o .value .rows) ∙ a .shape in
     rw (eq-eqb (o .status) 0 (a .status), eq-eqb (o .detail) 0 (a .detail), value-kept e (o .value) shape (a .parts .used) (a .parts .rest))
-answers-formed e o (inr a) = ap (formed e) (a .zeros) ∙ refusal-formed e (o .status) (o .detail) (a .low) (omega (arith, a .high)) (go (eqb (o .status) 9) (eqb (o .status) 10) refl refl)
+answers-formed e o (inr a) = go (carries (o .status)) refl
   where
-    go : (x y : Bool) → eqb (o .status) 9 ≡ x → eqb (o .status) 10 ≡ y → (eqb (o .detail) 0 || x || y || (eqb (o .status) 11 && ltb (o .detail) 128)) ≡ true
-    go true y p q = rw (or-true (eqb (o .detail) 0))
-    go false true p q = rw (or-true (eqb (o .detail) 0 || false))
-    go false false p q = rw (eq-eqb (o .detail) 0 (a .plain (eqb-false (o .status) 9 p) (eqb-false (o .status) 10 q)))
+    go : (t : Bool) → carries (o .status) ≡ t → formed e o ≡ true
+    go true c =
+        refusal-formed e o (a .low) (omega (arith, a .high)) (rw (c, or-true (eqb (o .detail) 0))) (rw c (integer-kept e (o .value) (a .carried c)))
+    go false c =
+        let ne = none (eqb (o .status) 9) (eqb (o .status) 10) c in
+        ap (formed e) (a .zeros c)
+        ∙ zeros-formed e (o .status) (o .detail) c (a .low) (omega (arith, a .high)) (rw (eq-eqb (o .detail) 0 (a .plain (eqb-false (o .status) 9 (ne .0)) (eqb-false (o .status) 10 (ne .1)))))
 
 -- a reference to one of 128 entries, whatever its slot holds
 pub reference-formed : (e : Edition) (l : List ℕ) (k : ℕ) → k < 128 → formed e (referenceTo e l k) ≡ true
@@ -191,7 +228,7 @@ unfolding referenceTo wellFormed
 reference-formed e l k h = go (eqb (saidBy (slot l k) .status) 0) (formed e (saidBy (slot l k))) refl
   where
     from-entry : formed e (refusedWith No.FromEntry k) ≡ true
-    from-entry = refusal-formed e 11 k (omega arith) (omega arith) (rw (lt-ltb k 128 h) (or-true (eqb k 0 || false || false)))
+    from-entry = zeros-formed e 11 k refl (omega arith) (omega arith) (rw (lt-ltb k 128 h) (or-true (eqb k 0 || false)))
 
     go : (a b : Bool) → formed e (saidBy (slot l k)) ≡ b → formed e (pick (a && b) (saidBy (slot l k)) (refusedWith No.FromEntry k)) ≡ true
     go true true q = q

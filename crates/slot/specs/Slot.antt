@@ -4,7 +4,9 @@ use mathlib.Core.Bool.{Bool, true, _&&_, _||_}
 use Prim.Native.Nat.{ℕ, zero, suc, _*_, _/_}
 use lib.Dec.{eqb, leb, ltb}
 use lib.ListN.{length, getD}
+use Rattle.types.specs.Types.{integerOf}
 use Rattle.types.specs.Edition.{Edition}
+use Rattle.value.specs.Answer.{carries}
 use Rattle.value.specs.Pattern.{pick, properOf, keptOf}
 use Rattle.value.specs.Refusals as No
 use Rattle.operand.specs.declared.Instance.{Instance}
@@ -54,15 +56,23 @@ valueFormed e v = shapeIn e (v .ty) (v .cols) (v .rows) && componentsFormed (v .
 unfoldable pub blank : Instance → Bool
 blank v = eqb (v .ty) 0 && eqb (v .cols) 0 && eqb (v .rows) 0 && componentsFormed 0 0 (v .comps)
 
+-- 02 §5: the operand that 9 and 10 keep, a scalar of an integer type with proper bits
+unfoldable pub integerFormed : Edition → Instance → Bool
+integerFormed e v = integerOf (v .ty) && eqb (v .cols) 1 && eqb (v .rows) 1 && valueFormed e v
+
+-- what may stand beside a refusal: that for 9 and 10, and zeros for every other
+abbrev pub besideFormed : Edition → ℕ → Instance → Bool
+besideFormed e n v = pick (carries n) (integerFormed e v) (blank v)
+
 -- detail 0, but any for 9 and 10 and below 128 for 11
 abbrev pub detailFormed : ℕ → ℕ → Bool
-detailFormed n d = eqb d 0 || eqb n No.ShlOverflow || eqb n No.ShrOverflow || (eqb n No.FromEntry && ltb d 128)
+detailFormed n d = eqb d 0 || carries n || (eqb n No.FromEntry && ltb d 128)
 
--- status 0, detail 0 and such a value; or status 1 to 11 with those zeros and such a detail
+-- status 0, detail 0 and such a value; or status 1 to 11 with such a detail and what may stand beside it
 unfoldable pub formed : Edition → Outcome → Bool
 formed e o =
     (eqb (o .status) 0 && eqb (o .detail) 0 && valueFormed e (o .value))
-    || (leb No.Unary (o .status) && leb (o .status) No.FromEntry && detailFormed (o .status) (o .detail) && blank (o .value))
+    || (leb No.Unary (o .status) && leb (o .status) No.FromEntry && detailFormed (o .status) (o .detail) && besideFormed e (o .status) (o .value))
 
 -- a slot of a sheet of this edition is well formed
 unfoldable pub wellFormed : Edition → List ℕ → Bool

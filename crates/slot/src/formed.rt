@@ -4,7 +4,7 @@ use operand::Outcome;
 ghost use mathlib.Core.Path.{_≡_};
 ghost use Prim.Native.Nat.{_*_, _<_};
 ghost use Rattle.types.specs.Edition.{plain};
-ghost use Rattle.slot.specs.Slot.{componentFormed, componentsFormed, valueFormed, blank, detailFormed, formed};
+ghost use Rattle.slot.specs.Slot.{componentFormed, componentsFormed, valueFormed, blank, integerFormed, besideFormed, detailFormed, formed};
 
 // How many components a shape has.
 fn area(cols: u8, rows: u8) -> usize
@@ -54,19 +54,38 @@ fn blank(v: Instance) -> bool
     (v.ty == 0) & (v.cols == 0) & (v.rows == 0) & components_formed(0, 0, xs)
 }
 
+// Whether a value is a scalar of an integer type, as a shift's refusal carries it.
+fn integer_formed(v: Instance) -> bool
+    ensures { λ r. ⌜ r ≡ integerFormed plain v ⌝ }
+{
+    types::is_integer(v.ty) & (v.cols == 1) & (v.rows == 1) & value_formed(v)
+}
+
+// Whether a value may stand beside a refusal of this number.
+fn beside_formed(number: u8, v: Instance) -> bool
+    ensures { λ r. ⌜ r ≡ besideFormed plain number v ⌝ }
+{
+    if value::carries(number) {
+        return integer_formed(v);
+    }
+    blank(v)
+}
+
 // Whether a refusal may have this detail.
 fn detail_formed(number: u8, detail: u32) -> bool
     ensures { λ r. ⌜ r ≡ detailFormed number detail ⌝ }
 {
-    (detail == 0) | (number == 9) | (number == 10) | (number == 11) & (detail < 128)
+    (detail == 0) | value::carries(number) | (number == 11) & (detail < 128)
 }
 
-// Whether a slot that says this is well formed.
+// Whether a slot that says this is well formed. Its components are gone through once.
 pub(crate) fn formed(o: Outcome) -> bool
     ensures { λ r. ⌜ r ≡ formed plain o ⌝ }
 {
     let v = o.value;
     let s = o.status;
-    (s == 0) & (o.detail == 0) & value_formed(v)
-        | (1 <= s) & (s <= 11) & detail_formed(s, o.detail) & blank(v)
+    if s == 0 {
+        return (o.detail == 0) & value_formed(v);
+    }
+    (s <= 11) & detail_formed(s, o.detail) & beside_formed(s, v)
 }

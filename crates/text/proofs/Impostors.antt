@@ -2,12 +2,12 @@
 -- contracts cite give a text that the wrong program does not. Assumes nothing.
 use mathlib.Core.Path.{_≡_, refl}
 use mathlib.Core.Bool.{true, false}
-use mathlib.Core.List.{List, [], _∷_, _++_}
+use mathlib.Core.List.{List, _∷_, _++_}
 use Prim.Native.Nat.{ℕ}
 use lib.ListN.{length, replicate}
 use Rattle.value.specs.Pattern.{keptOf}
 use Rattle.low.specs.Bytes.{whole, part, numbers}
-use Rattle.slot.specs.Slot.{saidBy, slot, each, componentFormed, componentsFormed, valueFormed, blank, formed, wellFormed}
+use Rattle.slot.specs.Slot.{saidBy, slot, each, componentFormed, componentsFormed, valueFormed, blank, integerFormed, formed, wellFormed}
 use Rattle.text.specs.Text.{ascii, decimals, dec, hex, spaced, shown, line, lines, entries, listing, refusalLine, mover, movers, movedLine}
 
 -- the results of one entry of status 0: its type, columns, rows and the low byte of its first component
@@ -25,6 +25,12 @@ pub unformed-hidden : listing (results 0 1 1 2) ≡ ascii "sheet 1\n0 0 0 1 1 0\
 unfolding keptOf decimals dec hex spaced shown line lines entries listing whole part numbers saidBy slot each componentFormed componentsFormed valueFormed blank
     formed wellFormed
 unformed-hidden = refl
+
+-- list: the operand of a refused shift is shown
+pub operand-listed : listing (9 ∷ 4 ∷ 1 ∷ 1 ∷ 32 ∷ replicate 3 0 ++ (1 ∷ replicate 127 0)) ≡ ascii "sheet 1\n0 9 4 1 1 32 0000000000000001\n"
+unfolding keptOf decimals dec hex spaced shown line lines entries listing whole part numbers saidBy slot each componentFormed componentsFormed valueFormed blank
+    integerFormed formed wellFormed
+operand-listed = refl
 
 -- list: a matrix of 4 by 4 has sixteen components, of 17 bytes each
 pub sixteen-listed : length (listing (results 5 4 4 0)) ≡ 292

@@ -45,12 +45,12 @@ take-min xs m n e =
     (le-or-lt m n)
 
 module _ (o : Outcome) (formed : Bool) where
-  pub shown-some : (eqb (o .status) 0 && formed) ≡ true → (n : ℕ) → n ≡ min (o .value .cols * o .value .rows) 16 → length (o .value .comps) ≡ 16
+  pub shown-some : formed ≡ true → (n : ℕ) → n ≡ min (o .value .cols * o .value .rows) 16 → length (o .value .comps) ≡ 16
       → words (take n (o .value .comps)) ≡ shown o formed
   unfolding shown
   shown-some t n e l = rw (t, e) (ap words (take-min (o .value .comps) (o .value .cols * o .value .rows) 16 l))
 
-  pub shown-none : (eqb (o .status) 0 && formed) ≡ false → [] ≡ shown o formed
+  pub shown-none : formed ≡ false → [] ≡ shown o formed
   unfolding shown
   shown-none f = rw f
 

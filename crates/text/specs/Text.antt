@@ -48,9 +48,9 @@ fields = spaced dec
 abbrev pub words : List ℕ → List ℕ
 words = spaced hex
 
--- the components in use, where a slot is well formed with status 0
+-- the components in use, where a slot is well formed: those of a value, and the operand that a shift's refusal carries
 unfoldable pub shown : Outcome → Bool → List ℕ
-shown o formed = cond (eqb (o .status) 0 && formed) (words (take (o .value .cols * o .value .rows) (o .value .comps))) []
+shown o formed = cond formed (words (take (o .value .cols * o .value .rows) (o .value .comps))) []
 
 -- an entry's line: number, status, type, columns, rows, detail, components in use last, a line feed
 unfoldable pub line : ℕ → Outcome → Bool → List ℕ

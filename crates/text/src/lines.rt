@@ -27,7 +27,7 @@ fn components(out: &mut [u8], at: usize, o: Outcome, formed: bool) -> usize
     requires { ⌜ at + 336 ≤ length (now out) ⌝ }
     ensures { λ r. ⌜ Put (now (out .entry)) (now (out .exit)) at r (shown o formed) × (r ≤ at + 336) ⌝ }
 {
-    if (o.status == 0) & formed {
+    if formed {
         let v = o.value;
         let xs = v.comps;
         return put::firsts(out, at, xs, used(v.cols, v.rows));

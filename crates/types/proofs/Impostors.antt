@@ -3,7 +3,7 @@ use mathlib.Core.Path.{_≡_, refl}
 use mathlib.Core.Bool.{true, false}
 use lib.Dec.{eqb}
 use Rattle.types.specs.declared.CommonType.the-variants.{Code, Nothing}
-use Rattle.types.specs.Types.{knownOf, classOf, widthOf, mostOf, floatOf, concreteOf, goesTo, commonType, rightOf, unaryRightOf, resultType}
+use Rattle.types.specs.Types.{knownOf, classOf, widthOf, mostOf, floatOf, integerOf, concreteOf, goesTo, commonType, rightOf, unaryRightOf, resultType}
 
 -- Bool, whose code is 0, taken for no type
 pub bool-known : knownOf 0 ≡ true
@@ -24,6 +24,10 @@ no-pattern = (refl, refl)
 -- integers with matrices
 pub integer-no-float : (floatOf 1 ≡ false) × (floatOf 7 ≡ false)
 integer-no-float = (refl, refl)
+
+-- Bool or AbstractFloat shifted; AbstractInt not
+pub integers-alone : (integerOf 0 ≡ false) × (integerOf 2 ≡ false) × (integerOf 1 ≡ true)
+integers-alone = (refl, refl, refl)
 
 -- an abstract setting
 pub abstract-no-setting : (concreteOf 2 ≡ false) × (concreteOf 7 ≡ false)

@@ -11,6 +11,8 @@ use Rattle.types.proofs.most.Kinds as most-kinds
 use Rattle.types.proofs.most.Reads as most-reads
 use Rattle.types.proofs.is_float.Kinds as is-float-kinds
 use Rattle.types.proofs.is_float.Reads as is-float-reads
+use Rattle.types.proofs.is_integer.Kinds as is-integer-kinds
+use Rattle.types.proofs.is_integer.Reads as is-integer-reads
 use Rattle.types.proofs.concrete.Kinds as concrete-kinds
 use Rattle.types.proofs.concrete.Reads as concrete-reads
 use Rattle.types.proofs.goes_to.Kinds as goes-to-kinds
@@ -38,6 +40,9 @@ most-one κs a x y s t p q = p ∙ sym q
 
 pub is-float-one : OneResult 0 is-float-kinds.ps is-float-kinds.r is-float-reads.Post
 is-float-one κs a x y s t p q = p ∙ sym q
+
+pub is-integer-one : OneResult 0 is-integer-kinds.ps is-integer-kinds.r is-integer-reads.Post
+is-integer-one κs a x y s t p q = p ∙ sym q
 
 pub concrete-one : OneResult 0 concrete-kinds.ps concrete-kinds.r concrete-reads.Post
 concrete-one κs a x y s t p q = p ∙ sym q

@@ -1,6 +1,6 @@
 // The types as data: a row for each code, and every question on a type answered from its row.
 ghost use mathlib.Core.Path.{_≡_};
-ghost use Rattle.types.specs.Types.{classOf, commonType, concreteOf, floatOf, goesTo, knownOf, mostOf, resultType, rightOf, rowOf, unaryRightOf, widthOf};
+ghost use Rattle.types.specs.Types.{classOf, commonType, concreteOf, floatOf, goesTo, integerOf, knownOf, mostOf, resultType, rightOf, rowOf, unaryRightOf, widthOf};
 
 // How many types there are: their codes are the numbers below.
 const TYPES: u8 = 7;
@@ -91,6 +91,13 @@ pub fn is_float(ty: u8) -> bool
     (ty == 2) | (ty == 5) | (ty == 6)
 }
 
+// Whether a type is an integer type: these are shifted.
+pub fn is_integer(ty: u8) -> bool
+    ensures { λ r. ⌜ r ≡ integerOf ty ⌝ }
+{
+    (ty == 1) | (ty == 3) | (ty == 4)
+}
+
 // Whether a setting may have a type.
 pub fn concrete(ty: u8) -> bool
     ensures { λ r. ⌜ r ≡ concreteOf ty ⌝ }
@@ -138,7 +145,7 @@ pub fn unary_right(op: u8, ty: u8) -> bool
     ensures { λ r. ⌜ r ≡ unaryRightOf op ty ⌝ }
 {
     let signed = (ty == 1) | (ty == 3);
-    (op == 1) & (ty == 0) | (op == 2) & (signed | is_float(ty)) | (op == 3) & (signed | (ty == 4))
+    (op == 1) & (ty == 0) | (op == 2) & (signed | is_float(ty)) | (op == 3) & is_integer(ty)
 }
 
 // The type of an operator's answer.

@@ -1,16 +1,26 @@
 -- For each public call a witness at which a wrong program's answer is not the one that the contract asks for. Assumes nothing.
 use mathlib.Core.Path.{_≡_, refl}
-use mathlib.Core.Bool.{false}
+use mathlib.Core.Bool.{true, false}
 use lib.IntN.{negsuc}
 use Rattle.rounding.specs.Bits.{ofFields, ofBits}
-use Rattle.value.specs.declared.Scalar.the-variants.{I32, U32, F16}
+use Rattle.value.specs.declared.Scalar.the-variants.{Bool as bool, I32, U32, F16}
 use Rattle.value.specs.declared.ShaderStage.the-variants.{Exec}
+use Rattle.value.specs.declared.Answer.the-variants.{DivByZero, ShrOverflow}
 use Rattle.value.specs.declared.Found.the-variants.{Nothing}
 use Rattle.value.specs.declared.Pair.the-variants.{None}
-use Rattle.value.specs.Answer.{strict, stageOf}
+use Rattle.value.specs.Answer.{carries, answerOf, numberOf, detailOf, scalarIn, strict, stageOf}
 use Rattle.value.specs.Pattern.{properOf, keptOf}
 use Rattle.value.specs.Scalar.{typeOf, finiteOf, bitsOf, keptScalar, scalarOf}
 use Rattle.value.specs.Pair.{bothOf}
+
+-- the left shift's refusal alone; every refusal with a detail
+pub both-shifts-carry : (carries 9 ≡ true) × (carries 10 ≡ true) × (carries 11 ≡ false)
+both-shifts-carry = (refl, refl, refl)
+
+-- the detail for the number, no detail, the count for the operand; an operand of DivByZero
+pub shift-said : (numberOf (answerOf (ShrOverflow 40 (U32 7))) ≡ 10) × (detailOf (answerOf (ShrOverflow 40 (U32 7))) ≡ 40)
+    × (scalarIn (answerOf (ShrOverflow 40 (U32 7))) ≡ U32 7) × (scalarIn (answerOf DivByZero) ≡ bool false)
+shift-said = (refl, refl, refl, refl)
 
 -- every stage strict
 pub exec-lets-pass : strict Exec ≡ false

@@ -2,5 +2,6 @@
 pub mod Called
 pub mod Widths
 pub mod Sound
+pub mod Without
 pub mod Single
 pub mod Impostors

@@ -1,9 +1,10 @@
 // One value of seven types, its pattern, and what an operator answers.
 pub mod pattern;
 pub mod refusals;
+pub mod said;
 
 ghost use mathlib.Core.Path.{_≡_};
-ghost use Rattle.value.specs.Answer.{strict, stageOf};
+ghost use Rattle.value.specs.Answer.{carries, strict, stageOf};
 ghost use Rattle.value.specs.Scalar.{finiteOf, typeOf};
 ghost use Rattle.value.specs.Pattern.{keptOf, properOf};
 
@@ -25,7 +26,7 @@ pub enum ShaderStage {
     Exec,
 }
 
-// What an operator answers: a value, or why it has none.
+// What an operator answers: a value, or why it has none; a shift says the count and the left operand.
 pub enum Answer {
     Value(Scalar),
     Unary,
@@ -35,8 +36,8 @@ pub enum Answer {
     MulOverflow,
     DivByZero,
     RemZeroDiv,
-    ShlOverflow(u32),
-    ShrOverflow(u32),
+    ShlOverflow(u32, Scalar),
+    ShrOverflow(u32, Scalar),
 }
 
 // A scalar, where there is one.
@@ -57,10 +58,19 @@ pub enum Pair {
     None,
 }
 
-// A refusal: its number and its detail.
+// A refusal: its number and its detail, and the type and bits of the operand that a shift's carries. Any other's are 0.
 pub struct Refusal {
-    pub number: u8,
+    pub bits: u64,
     pub detail: u32,
+    pub number: u8,
+    pub ty: u8,
+}
+
+// Whether a refusal of this number carries an operand.
+pub fn carries(number: u8) -> bool
+    ensures { λ r. ⌜ r ≡ carries number ⌝ }
+{
+    (number == refusals::SHL_OVERFLOW) | (number == refusals::SHR_OVERFLOW)
 }
 
 // Const and Override refuse what Exec lets pass.

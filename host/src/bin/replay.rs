@@ -58,9 +58,12 @@ fn operator(case: &mut Bytes) -> Option<bool> {
     let expected = case.answer()?;
     let value = case.operand()?;
     let mut after = [0x5a; SLOT];
-    if expected >> 32 == 0 {
+    // A value fills the slot, and so does the operand of a refused shift; every other refusal leaves it.
+    if matches!(expected >> 32, 0 | 9 | 10) {
         after = [0; SLOT];
+        after[0] = (expected >> 32) as u8;
         after[1..4].copy_from_slice(&value[..3]);
+        after[4..8].copy_from_slice(&(expected as u32).to_le_bytes());
         after[8..5 + value.len()].copy_from_slice(&value[3..]);
     }
     Some(answer == expected && slot == after)

@@ -67,12 +67,16 @@ pub fn json(bytes: usize, judged: &Result<Sheet, Refusal>) -> Json {
     }
 }
 
-/// A refusal for programs.
+/// A refusal for programs; a shift's has the left operand that it keeps.
 pub fn refused(refusal: Refusal) -> Json {
-    json!({
+    let mut all = json!({
         "number": refusal.number(),
         "name": refusal.name(),
         "detail": refusal.detail(),
         "sentence": refusal.sentence(),
-    })
+    });
+    if let Some(operand) = refusal.operand() {
+        all["operand"] = json!(operand.to_string());
+    }
+    all
 }

@@ -55,7 +55,11 @@ pub fn dot(asked: &Asked, results: &Results, setting: Option<u32>) -> Result<Str
 fn lines(asked: &Asked, results: &Results, number: u32, entry: &Entry) -> [String; 3] {
     let name = asked.names.get(number).map_or_else(String::new, |name| format!(" {name}"));
     let expr = asked.names.expr(&entry.expr);
-    let value = sentence::of_entry(results, number, &asked.names);
+    let value = match results.slot(number) {
+        // A box is narrow: of a vector's shift it has the component that failed, and not both vectors.
+        Some(Slot::Refused(refusal)) if refusal.operand().is_some() => refusal.to_string(),
+        _ => sentence::of_entry(results, number, &asked.names),
+    };
     [format!("#{number}{name}"), format!("{}: {}", entry.kind, cut(&expr)), cut(&value)]
 }
 

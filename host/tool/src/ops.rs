@@ -1,5 +1,5 @@
 //! One page on operators, types, stages and refusals, with their codes.
-use booth::{Binary, Refusal, Stage, Type, Unary};
+use booth::{Binary, Refusal, Scalar, Stage, Type, Unary};
 
 /// The page.
 pub fn page() -> String {
@@ -22,7 +22,8 @@ pub fn page() -> String {
         text += &format!("  {:>2}  {:<3} {}\n", op as u8, op.symbol(), of_binary(op));
     }
     text += "\nRefusals (number, name). What a sheet refuses has a byte place as its detail, what a single call refuses has 0.\n";
-    for refusal in (1..=u8::MAX).filter_map(|number| Refusal::new(number, 0)) {
+    let operand = Some(Scalar::from(1u32));
+    for refusal in (1..=u8::MAX).filter_map(|number| Refusal::new(number, 0, operand)) {
         if !matches!(refusal, Refusal::Other { .. }) {
             text += &format!("  {:>2}  {:<15} {}\n", refusal.number(), refusal.name(), of_refusal(refusal));
         }
@@ -86,9 +87,12 @@ fn of_binary(op: Binary) -> &'static str {
 fn of_refusal(refusal: Refusal) -> String {
     match refusal {
         Refusal::ShlOverflow { .. } => {
-            "before exec: i32 or u32 by more than 31, or a result outside its type (detail: the count)".to_owned()
+            "before exec: i32 or u32 by more than 31, or a result outside its type (detail: the count; keeps the left operand)"
+                .to_owned()
         }
-        Refusal::ShrOverflow { .. } => "before exec: i32 or u32 by more than 31 (detail: the count)".to_owned(),
+        Refusal::ShrOverflow { .. } => {
+            "before exec: i32 or u32 by more than 31 (detail: the count; keeps the left operand)".to_owned()
+        }
         Refusal::FromEntry { .. } => "the entry that is named has no value (detail: that entry)".to_owned(),
         Refusal::BadMark { .. } => "a record does not begin with D5 17 (detail: the record's place)".to_owned(),
         Refusal::CutShort { .. } => "a byte is missing (detail: its place)".to_owned(),

@@ -30,8 +30,12 @@ pub fn of_step(step: &Step, names: &Names) -> String {
         (Slot::Refused(refusal), Expr::Unary(op, _), [operand]) => {
             format!("{}: {op} does not take {}, here {operand}", refusal.name(), of_type(operand))
         }
+        // Of a shift of scalars the sentence has both operands.
+        (Slot::Refused(refusal), _, [left, _]) if refusal.operand().is_some() && left.is_scalar() => {
+            refusal.to_string()
+        }
         (Slot::Refused(refusal), Expr::Binary(op, ..), [left, right]) => {
-            let (whole, ty) = (format!("{left} {op} {}", shown(refusal, right)), met(left.ty(), right.ty()));
+            let (whole, ty) = (format!("{left} {op} {right}"), met(left.ty(), right.ty()));
             let why = match refusal {
                 Refusal::Binary => unpaired(*op, left, right),
                 Refusal::CompwiseBinary => {
@@ -47,10 +51,6 @@ pub fn of_step(step: &Step, names: &Names) -> String {
                 },
                 Refusal::DivByZero | Refusal::RemZeroDiv if ty.is_float() => format!("not finite in {ty}"),
                 Refusal::DivByZero | Refusal::RemZeroDiv => format!("the least {ty} by -1"),
-                Refusal::ShlOverflow { count } => {
-                    return format!("ShlOverflow: {whole} leaves no room for the count {count}")
-                }
-                Refusal::ShrOverflow { count } => format!("32 bits cannot be shifted right by the count {count}"),
                 other => other.sentence(),
             };
             format!("{}: {whole}: {why}", refusal.name())
@@ -91,14 +91,6 @@ fn of_type(value: &Value) -> String {
     match value.type_name() {
         name if name.starts_with(['A', 'i', 'f']) => format!("an {name}"),
         name => format!("a {name}"),
-    }
-}
-
-/// A shift's count is a number and no more, whatever its suffix.
-fn shown(refusal: Refusal, right: &Value) -> String {
-    match refusal {
-        Refusal::ShlOverflow { count } | Refusal::ShrOverflow { count } if right.is_scalar() => count.to_string(),
-        _ => right.to_string(),
     }
 }
 

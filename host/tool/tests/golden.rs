@@ -307,14 +307,20 @@ fn listing(state: &Json) -> String {
     let mut text = format!("sheet {}\n", entries.len());
     for entry in entries {
         let (number, status) = (&entry["number"], entry["status"].as_u64().unwrap());
+        let refusal = &entry["refusal"];
+        assert_eq!(refusal["number"].as_u64(), Some(status).filter(|status| *status != 0));
+        assert_eq!(refusal["operand"].is_string(), [9, 10].contains(&status), "{refusal}");
         if status == 0 {
             let (code, columns, rows) = numbers(entry["type"].as_str().unwrap());
             let bits =
                 entry["components"].as_array().unwrap().iter().map(|bits| format!(" {}", bits.as_str().unwrap()));
             text += &format!("{number} 0 {code} {columns} {rows} 0{}\n", bits.collect::<String>());
+        } else if let Some(operand) = refusal["operand"].as_str() {
+            let operand = Value::read(operand).unwrap();
+            let (code, bits) = (operand.ty() as u8, operand.components()[0]);
+            text += &format!("{number} {status} {code} 1 1 {} {bits:016x}\n", refusal["detail"]);
         } else {
-            assert_eq!(entry["refusal"]["number"].as_u64(), Some(status));
-            text += &format!("{number} {status} 0 0 0 {}\n", entry["refusal"]["detail"]);
+            text += &format!("{number} {status} 0 0 0 {}\n", refusal["detail"]);
         }
     }
     text

@@ -96,7 +96,7 @@ fn every_refusal_of_a_sheet() {
     for (number, place, bytes) in refused_sheets() {
         seen.push(number);
         folder.write("a.sheet", &bytes);
-        let refusal = Refusal::new(number, place as u32).unwrap();
+        let refusal = Refusal::new(number, place as u32, None).unwrap();
         assert_eq!(check(&bytes), Err(refusal), "{bytes:02x?}");
         let name = format!("{} ({number})", refusal.name());
         let sentence = match number {

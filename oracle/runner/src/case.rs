@@ -18,12 +18,36 @@ pub struct Case {
     pub right: Option<Operand>,
 }
 
+/// A refusal: document 01's number and detail, and the left operand of a refused shift, its type and its bits.
+#[derive(Clone, Copy, Debug, PartialEq, Eq)]
+pub struct Refusal {
+    pub number: u8,
+    pub detail: u32,
+    pub operand: Option<(u8, u64)>,
+}
+
+impl Refusal {
+    /// One that says no more than its number.
+    pub const fn plain(number: u8) -> Self {
+        Refusal { number, detail: 0, operand: None }
+    }
+
+    /// A shift's: the number, the count, and the type and bits of its left operand.
+    pub const fn shift(number: u8, detail: u32, operand: (u8, u64)) -> Self {
+        Refusal { number, detail, operand: Some(operand) }
+    }
+
+    /// Whether two part in nothing but the operand.
+    pub fn parts_in_operand(&self, other: &Refusal) -> bool {
+        (self.number, self.detail) == (other.number, other.detail) && self.operand != other.operand
+    }
+}
+
 /// What one side answers.
 #[derive(Clone, Debug, PartialEq, Eq)]
 pub enum Answer {
     Value(Operand),
-    /// Document 01's number and detail.
-    Refused(u8, u32),
+    Refused(Refusal),
     /// A vector whose components have unlike types; no slot can hold it.
     Mixed(Vec<(u8, u64)>),
     Panicked(String),
@@ -130,7 +154,8 @@ fn put_operand(out: &mut Vec<u8>, v: &Operand, count: usize) {
     v.comps[..count].iter().for_each(|bits| out.extend(bits.to_le_bytes()));
 }
 
-/// One record: the rest's length in two bytes, kind, operator, stage, operands, status, detail, value.
+/// One record: the rest's length in two bytes, kind, operator, stage, operands, status, detail, value. A refusal has zeros as its value, or
+/// the operand of a refused shift.
 /// A mixed vector has type 255, and its components' types in its detail, four bits each, component 0 lowest.
 pub fn put_record(out: &mut Vec<u8>, case: &Case, answer: &Answer) {
     let start = out.len();
@@ -141,7 +166,10 @@ pub fn put_record(out: &mut Vec<u8>, case: &Case, answer: &Answer) {
     }
     let (status, detail, value) = match answer {
         Answer::Value(v) => (0, 0, *v),
-        Answer::Refused(number, detail) => (*number, *detail, Operand::default()),
+        Answer::Refused(r) => {
+            let operand = r.operand.map_or_else(Operand::default, |(ty, bits)| Operand::scalar(ty, bits));
+            (r.number, r.detail, operand)
+        }
         Answer::Mixed(cs) => {
             let types = cs.iter().rev().fold(0, |d, (ty, _)| d << 4 | u32::from(*ty));
             let bits: Vec<u64> = cs.iter().map(|c| c.1).collect();
@@ -173,6 +201,14 @@ fn get_operand(rest: &mut &[u8]) -> Option<Operand> {
     Some(Operand::new(ty, cols, rows, &comps))
 }
 
+/// The operand that stands beside a refusal: none where all is 0, and nothing if it is no scalar.
+fn carried(value: &Operand) -> Option<Option<(u8, u64)>> {
+    match *value == Operand::default() {
+        true => Some(None),
+        false => value.is_scalar().then_some(Some((value.ty, value.comps[0]))),
+    }
+}
+
 /// The next record of a list, or nothing if the bytes are no record.
 pub fn get_record(list: &mut &[u8]) -> Option<(Case, Answer)> {
     let size = u16::from_le_bytes(take(list, 2)?.try_into().ok()?);
@@ -191,7 +227,7 @@ pub fn get_record(list: &mut &[u8]) -> Option<(Case, Answer)> {
             Answer::Mixed(types.zip(value.comps).collect())
         }
         PANICKED => Answer::Panicked(String::new()),
-        number => Answer::Refused(number, detail),
+        number => Answer::Refused(Refusal { number, detail, operand: carried(&value)? }),
     };
     (rest.is_empty() && (kind == 1 || kind == 2)).then_some((Case { op, stage, left, right }, answer))
 }

@@ -2,7 +2,7 @@
 //!
 //! `mended` works a case by document 01's order of checks, with each fault of the text mended at the one place where it stands, and says
 //! which lines of docs/DIFFERENCES.md were needed. A difference between the text and the other side is explained exactly if some line was
-//! needed and the mended answer is the other side's, to the last bit of its value or its detail.
+//! needed and the mended answer is the other side's, to the last bit of its value, its detail or its operand.
 use text::{
     conv::{convert_inner, Convert},
     inst::LiteralInstance,
@@ -10,12 +10,11 @@ use text::{
 };
 
 use crate::{
-    case::{Answer, Case, Operand},
+    case::{Answer, Case, Operand, Refusal},
     lines::{Line, Needed},
     ops,
 };
 
-type Refusal = (u8, u32);
 type Scalar = Result<LiteralInstance, Refusal>;
 type Literals = Vec<LiteralInstance>;
 
@@ -25,16 +24,21 @@ struct Work {
     needed: Needed,
 }
 
-const BINARY: Refusal = (2, 0);
-const COMPWISE: Refusal = (3, 0);
+const BINARY: Refusal = Refusal::plain(2);
+const COMPWISE: Refusal = Refusal::plain(3);
 const SHL_OVERFLOW: u8 = 9;
 
 /// The text's own answer on two literals.
 fn plain(op: u8, stage: u8, l: LiteralInstance, r: LiteralInstance) -> Scalar {
     match ops::binary(op, ops::stage(stage), &l.into(), &r.into()) {
         Ok(v) => Ok(*v.unwrap_literal_ref()),
-        Err(e) => Err(e.number()),
+        Err(e) => Err(ops::refusal(&e)),
     }
+}
+
+/// The refusal of a left shift: all of the count, and the left operand in its own type, as 02 §5 has it.
+fn no_room(l: &LiteralInstance, count: u64) -> Scalar {
+    Err(Refusal::shift(SHL_OVERFLOW, count as u32, ops::bits(l)))
 }
 
 /// One component, both sides in the type in which the operator works (a shift's right side U32), with the scalar lines mended.
@@ -46,14 +50,14 @@ fn step(op: u8, stage: u8, l: LiteralInstance, r: LiteralInstance, work: &mut Wo
     let (ty, _) = ops::bits(&l);
     let (_, count) = ops::bits(&r);
     let mended = match (op, ty) {
-        (2, _) => Some((Line::AndCallsOr, l.op_and(&r).map_err(|e| e.number()))),
+        (2, _) => Some((Line::AndCallsOr, l.op_and(&r).map_err(|e| ops::refusal(&e)))),
         (3..=5 | 7, 5 | 6) if stage == 1 => Some((Line::OverrideFloat, plain(op, 0, l, r))),
         (7, 1 | 3 | 4) if stage == 1 => Some((Line::OverrideRem, plain(op, 0, l, r))),
         (6, 0) if stage == 2 => Some((Line::BoolDivision, Err(BINARY))),
         (10..=13, 0) => Some((Line::BoolOrdered, Err(BINARY))),
-        (17, 3 | 4) if stage < 2 && count > 31 => Some((Line::Shl32Count, Err((SHL_OVERFLOW, count as u32)))),
+        (17, 3 | 4) if stage < 2 && count > 31 => Some((Line::Shl32Count, no_room(&l, count))),
         (17, 1) if stage < 2 && count > 63 && l != LiteralInstance::AbstractInt(0) => {
-            Some((Line::ShlAbstract, Err((SHL_OVERFLOW, count as u32))))
+            Some((Line::ShlAbstract, no_room(&l, count)))
         }
         (18, 1) if count > 64 => Some((Line::ShrAbstract, plain(op, stage, l, LiteralInstance::U32(64)))),
         (18, 0 | 2 | 5 | 6) if count == 0 => Some((Line::ShrByZero, Err(BINARY))),
@@ -180,7 +184,7 @@ fn worked(case: &Case, right: &Operand, text: &Answer, work: &mut Work) -> Resul
     let (ls, rs) = match converted(case.op, left, right) {
         Some(both) => both,
         None => {
-            if let (Some(line), true) = (early(case, left, right), *text != Answer::Refused(2, 0)) {
+            if let (Some(line), true) = (early(case, left, right), *text != Answer::Refused(BINARY)) {
                 work.needed.add(line);
             }
             return Err(BINARY);
@@ -213,7 +217,7 @@ fn run(case: &Case, right: &Operand, text: &Answer, mends: bool) -> (Answer, Nee
     let mut work = Work { mends, needed: Needed::default() };
     let comps = match worked(case, right, text, &mut work) {
         Ok(comps) => comps,
-        Err((number, detail)) => return (Answer::Refused(number, detail), work.needed),
+        Err(refusal) => return (Answer::Refused(refusal), work.needed),
     };
     let comps: Vec<(u8, u64)> = comps.iter().map(ops::bits).collect();
     let bits: Vec<u64> = comps.iter().map(|c| c.1).collect();

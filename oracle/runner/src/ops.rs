@@ -7,7 +7,7 @@ use text::{
     Error, Instance, ShaderStage,
 };
 
-use crate::case::{Answer, Case, Operand};
+use crate::case::{Answer, Case, Operand, Refusal};
 
 pub fn literal(ty: u8, bits: u64) -> LiteralInstance {
     match ty {
@@ -88,11 +88,14 @@ pub fn answer_of(result: Result<Instance, Error>) -> Answer {
         Ok(Instance::Vec(v)) => vector_answer(&v),
         Ok(Instance::Mat(m)) => matrix_answer(&m),
         Ok(_) => Answer::Panicked("a pointer as an answer".into()),
-        Err(e) => {
-            let (number, detail) = e.number();
-            Answer::Refused(number, detail)
-        }
+        Err(e) => Answer::Refused(refusal(&e)),
     }
+}
+
+/// The text's refusal as the other side says it.
+pub fn refusal(e: &Error) -> Refusal {
+    let (number, detail) = e.number();
+    Refusal { number, detail, operand: e.operand().map(bits) }
 }
 
 /// The text's unary operator of a code from 1 to 3.
@@ -140,7 +143,7 @@ fn worked(case: &Case) -> Result<Instance, Error> {
 /// refusal; a panic is caught.
 pub fn answer(case: &Case) -> Answer {
     if let Some(number) = case.malformed() {
-        return Answer::Refused(number, 0);
+        return Answer::Refused(Refusal::plain(number));
     }
     match catch_unwind(AssertUnwindSafe(|| answer_of(worked(case)))) {
         Ok(answer) => answer.kept(),

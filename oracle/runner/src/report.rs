@@ -2,18 +2,29 @@
 use std::collections::BTreeMap;
 
 use crate::{
-    case::{Answer, Case, Operand},
+    case::{Answer, Case, Operand, Refusal},
     lines::{Needed, LINES},
     mended::mended,
     ops,
 };
 
-/// One difference: the case, the Rust text's answer and the other side's.
+/// One difference: the case, the Rust text's answer, document 01's over the text's scalar operators, and the other side's.
 #[derive(Clone)]
 pub struct Difference {
     pub case: Case,
     pub text: Answer,
+    pub ours: Answer,
     pub other: Answer,
+}
+
+impl Difference {
+    /// Whether the other side parts from document 01 in the operand of a refused shift alone.
+    fn in_operand(&self) -> bool {
+        match (&self.ours, &self.other) {
+            (Answer::Refused(ours), Answer::Refused(other)) => ours.parts_in_operand(other),
+            _ => false,
+        }
+    }
 }
 
 #[derive(Default)]
@@ -24,8 +35,12 @@ pub struct Report {
     pub malformed: u64,
     pub by_lines: BTreeMap<Needed, u64>,
     smallest: BTreeMap<Needed, (u64, Difference)>,
+    /// Refused `<<` and `>>` with the left operand that document 02 asks for.
+    pub with_operand: [u64; 2],
     /// Differences that no line explains; the first are kept.
     pub unexplained: u64,
+    /// Those of them that part in the operand of a refused shift alone.
+    pub operands: u64,
     pub first: Vec<Difference>,
     pub panics: u64,
     seen: BTreeMap<(bool, u8, u8), Vec<bool>>,
@@ -77,18 +92,36 @@ pub fn case(c: &Case) -> String {
     }
 }
 
+/// A refusal as words: `7`, `21 with 5`, `9 with 32 of U32 1`.
+fn refusal(r: &Refusal) -> String {
+    let Refusal { number, detail, operand: carried } = *r;
+    match (number, detail, carried) {
+        (_, _, Some((ty, bits))) => format!("{number} with {detail} of {}", operand(&Operand::scalar(ty, bits))),
+        (9 | 10, _, None) => format!("{number} with {detail} and no operand"),
+        (_, 0, None) => number.to_string(),
+        (_, _, None) => format!("{number} with {detail}"),
+    }
+}
+
 pub fn answer(a: &Answer) -> String {
     match a {
         Answer::Value(v) => operand(v),
-        Answer::Refused(number @ (9 | 10), detail) => format!("{number} with {detail}"),
-        Answer::Refused(number, 0) => number.to_string(),
-        Answer::Refused(number, detail) => format!("{number} with {detail}"),
+        Answer::Refused(r) => refusal(r),
         Answer::Mixed(cs) => {
             let cs: Vec<String> =
                 cs.iter().map(|(ty, b)| format!("{} {}", name(&TYPES, (*ty).into()), literal(*ty, *b))).collect();
             format!("mixed ({})", cs.join(", "))
         }
         Answer::Panicked(words) => format!("panic: {words}"),
+    }
+}
+
+/// The line for a difference that no line explains.
+pub fn unexplained(d: &Difference) -> String {
+    let (case, text, other) = (case(&d.case), answer(&d.text), answer(&d.other));
+    match d.in_operand() {
+        true => format!("operand differs: {case}: Rust {text}; asked for {}; other {other}", answer(&d.ours)),
+        false => format!("unexplained: {case}: Rust {text}; other {other}"),
     }
 }
 
@@ -109,12 +142,15 @@ impl Report {
         self.panics += u64::from(matches!(text, Answer::Panicked(_)));
         let (ours, needed) = mended(case, &text);
         if ours == other && (text == other || !needed.none()) {
+            if let Answer::Refused(Refusal { number: number @ (9 | 10), operand: Some(_), .. }) = other {
+                self.with_operand[usize::from(number) - 9] += 1;
+            }
             if text == other {
                 self.equal += 1;
                 self.malformed += u64::from(case.malformed().is_some());
             } else {
                 *self.by_lines.entry(needed).or_default() += 1;
-                let found = Difference { case: *case, text, other };
+                let found = Difference { case: *case, text, ours, other };
                 let weight = weight(case);
                 let best = self.smallest.entry(needed).or_insert_with(|| (weight, found.clone()));
                 if weight < best.0 {
@@ -123,9 +159,11 @@ impl Report {
             }
             return;
         }
+        let found = Difference { case: *case, text, ours, other };
         self.unexplained += 1;
+        self.operands += u64::from(found.in_operand());
         if self.first.len() < 200 {
-            self.first.push(Difference { case: *case, text, other });
+            self.first.push(found);
         }
     }
 
@@ -165,6 +203,10 @@ impl Report {
             "{} answered alike, {} of them malformed; {} panics of the text",
             self.equal, self.malformed, self.panics
         );
+        println!(
+            "{} refused << and {} refused >> with the same left operand; {} with another or none",
+            self.with_operand[0], self.with_operand[1], self.operands
+        );
         for (needed, count) in &self.by_lines {
             let (_, smallest) = &self.smallest[needed];
             println!("{count:8} under {}", needed.ids());
@@ -179,9 +221,7 @@ impl Report {
             let count: u64 = self.by_lines.iter().filter(|(needed, _)| needed.has(line)).map(|(_, n)| n).sum();
             println!("{id:4} {count:8} {words}");
         }
-        for d in &self.first {
-            println!("unexplained: {}: Rust {}; other {}", case(&d.case), answer(&d.text), answer(&d.other));
-        }
+        self.first.iter().for_each(|found| println!("{}", unexplained(found)));
         println!("{} differences under no line", self.unexplained);
     }
 }

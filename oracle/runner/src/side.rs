@@ -2,6 +2,8 @@
 use std::vec::IntoIter;
 
 use crate::case::{get_record, Answer, Case};
+#[cfg(feature = "booth")]
+use crate::case::{Operand, Refusal};
 
 /// Something that answers cases, asked in order.
 pub trait Side {
@@ -48,34 +50,46 @@ pub struct Linked;
 #[cfg(feature = "booth")]
 impl Side for Linked {
     fn answer(&mut self, case: &Case) -> Result<Answer, String> {
-        use crate::case::Operand;
         let given = |v: &Operand| {
             let mut bytes = vec![v.ty, v.cols, v.rows];
             v.used().iter().for_each(|bits| bytes.extend(bits.to_le_bytes()));
             bytes
         };
-        let mut slot = [0xaa; booth::SLOT];
+        let mut slot = [UNTOUCHED; booth::SLOT];
         let left = given(&case.left);
         let answer = match &case.right {
             None => booth::raw_unary(case.op, case.stage, &left, &mut slot),
             Some(right) => booth::raw_binary(case.op, case.stage, &left, &given(right), &mut slot),
         };
-        let (number, detail) = ((answer >> 32) as u8, answer as u32);
-        if answer >> 40 != 0 {
-            return Err(format!("an answer has bits above 39: {answer:#x}"));
+        match answer >> 40 {
+            0 => read((answer >> 32) as u8, answer as u32, &slot),
+            _ => Err(format!("an answer has bits above 39: {answer:#x}")),
         }
-        if number != 0 {
-            return match slot == [0xaa; booth::SLOT] {
-                true => Ok(Answer::Refused(number, detail)),
-                false => Err("a refusal has written to the slot".into()),
-            };
+    }
+}
+
+/// What a byte of the slot is before the call.
+#[cfg(feature = "booth")]
+const UNTOUCHED: u8 = 0xaa;
+
+/// What an answer's number and detail say together with the slot that was lent for it.
+#[cfg(feature = "booth")]
+fn read(number: u8, detail: u32, slot: &[u8; booth::SLOT]) -> Result<Answer, String> {
+    if number != 0 && *slot == [UNTOUCHED; booth::SLOT] {
+        // A shift's has no operand then, and the report says so.
+        return Ok(Answer::Refused(Refusal { number, detail, operand: None }));
+    }
+    let comps: Vec<u64> = slot[8..].chunks_exact(8).map(|c| u64::from_le_bytes(c.try_into().unwrap())).collect();
+    let value = Operand::new(slot[1], slot[2], slot[3], &comps);
+    let zeros = comps.iter().skip(value.count()).all(|bits| *bits == 0);
+    let said = slot[0] == number && slot[4..8] == detail.to_le_bytes();
+    let formed = said && zeros && value.well_formed() && value == value.kept();
+    match number {
+        0 if formed && detail == 0 => Ok(Answer::Value(value)),
+        9 | 10 if formed && value.is_scalar() && matches!(value.ty, 1 | 3 | 4) => {
+            Ok(Answer::Refused(Refusal::shift(number, detail, (value.ty, value.comps[0]))))
         }
-        let comps: Vec<u64> = slot[8..].chunks_exact(8).map(|c| u64::from_le_bytes(c.try_into().unwrap())).collect();
-        let value = Operand::new(slot[1], slot[2], slot[3], &comps);
-        let zeros = comps.iter().skip(value.count()).all(|bits| *bits == 0);
-        match slot[0] == 0 && slot[4..8] == [0; 4] && detail == 0 && zeros && value == value.kept() {
-            true => Ok(Answer::Value(value)),
-            false => Err(format!("the slot is not well formed: {slot:02x?}")),
-        }
+        0 | 9 | 10 => Err(format!("the slot is not well formed: {slot:02x?}")),
+        _ => Err("a refusal has written to the slot".into()),
     }
 }

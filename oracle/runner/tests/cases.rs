@@ -1,6 +1,6 @@
 //! The generated cases: how many, the same each time, and nothing left out.
 use runner::{
-    case::{put_record, Answer},
+    case::{put_record, Answer, Refusal},
     cases::{each, kinds},
     report::Report,
 };
@@ -27,7 +27,7 @@ fn one_seed_gives_the_same_cases() {
             count += 1;
             if count % 97 == 0 {
                 bytes.clear();
-                put_record(&mut bytes, &case, &Answer::Refused(1, 0));
+                put_record(&mut bytes, &case, &Answer::Refused(Refusal::plain(1)));
                 sum = bytes.iter().fold(sum, |h, b| (h ^ u64::from(*b)).wrapping_mul(0x100_0000_01b3));
             }
         });

@@ -38,4 +38,12 @@ impl Error {
             Error::PtrHandle | Error::PtrVecComp => (0, 0),
         }
     }
+
+    /// The left operand that a refused shift carries.
+    pub fn operand(&self) -> Option<&LiteralInstance> {
+        match self {
+            Error::ShlOverflow(_, operand) | Error::ShrOverflow(_, operand) => Some(operand),
+            _ => None,
+        }
+    }
 }

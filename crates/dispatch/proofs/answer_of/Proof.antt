@@ -4,7 +4,7 @@ use Rattle.dispatch.proofs.answer_of.Statement.{statement}
 use Rattle.dispatch.proofs.answer_of.Tie as tie
 
 returns : tie.Need-returns
-returns c = rw (c .before .if1 .taken) (c .refused .ensures)
+returns c = rw (c .before .if1 .taken) (c .refused-as .ensures)
 
 returns-2 : tie.Need-returns-2
 returns-2 c = rw (c .before .before .if1 .left) (c .answered .ensures)

@@ -27,14 +27,14 @@ left-refused : tie.Need-returns-2
 unfolding convertedTo
 left-refused c =
     let l = c .before .before .before in
-    on-stop _ _ (rw (l .before .count .ensures) at (l .converted .ensures)) _ _ (c .before .if2 .taken) (c .refused .ensures)
+    on-stop _ _ (rw (l .before .count .ensures) at (l .converted .ensures)) _ _ (c .before .before .if2 .taken) (c .refused-as .ensures)
 
 count-requires-2 : tie.Need-count-requires-2
-count-requires-2 c κs = let l = c .before .before in formed-small _ (l .before .before .before .pre .1)
+count-requires-2 c κs = let l = c .before in formed-small _ (l .before .before .before .pre .1)
 
 converted-requires-2 : tie.Need-converted-requires-2
 converted-requires-2 c κs =
-    let l = c .before .before .before in
+    let l = c .before .before in
     rw (c .count2 .ensures) (count-small _ (formed-small _ (l .before .before .before .pre .1)))
 
 right-refused : tie.Need-returns-3
@@ -42,23 +42,23 @@ unfolding convertedTo
 right-refused c =
     let r = c .before .before .before in
     let d = r .before .before in
-    let l = d .before .before in
+    let l = d .before in
     on-go _ _ (rw (l .before .count .ensures) at (l .converted .ensures)) _ _ (d .if2 .left)
-    (on-stop _ _ (rw (r .before .count2 .ensures) at (r .converted2 .ensures)) _ _ (c .before .if3 .taken) (c .refused2 .ensures))
+    (on-stop _ _ (rw (r .before .count2 .ensures) at (r .converted2 .ensures)) _ _ (c .before .before .if3 .taken) (c .refused-as2 .ensures))
 
 work-requires-2 : tie.Need-work-requires-2
 work-requires-2 c κs =
-    let r = c .before .before .before .before .before .before in
-    let l = r .before .before .before .before in
+    let r = c .before .before .before .before .before in
+    let l = r .before .before .before in
     let p = l .before .before .before .pre in
     (formed-small _ (p .0), formed-small _ (p .1))
 
 converted : tie.Need-returns-4
 unfolding convertedTo
 converted c =
-    let r = c .before .before .before .before .before .before .before in
+    let r = c .before .before .before .before .before .before in
     let d = r .before .before in
-    let l = d .before .before in
+    let l = d .before in
     on-go _ _ (rw (l .before .count .ensures) at (l .converted .ensures)) _ _ (d .if2 .left)
     (on-go _ _ (rw (r .before .count2 .ensures) at (r .converted2 .ensures)) _ _ (c .before .before .before .before .before .if3 .left) (c .work2 .ensures))
 

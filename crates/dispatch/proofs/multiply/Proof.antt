@@ -2,36 +2,53 @@
 use mathlib.Core.Path.{refl}
 use native.Mathlib.Omega.{arith}
 use native.Mathlib.Nat.{mul-le-mul, mul-le-mul-left}
+use lib.Dec.{eqb}
 use borrow.Author.Needs.{needs}
-use borrow.Author.Tests.{eq-eqb, ne-eqb}
+use Rattle.low.proofs.Tests.{both}
 use Rattle.dispatch.specs.Meaning.{matrixProduct}
 use Rattle.dispatch.proofs.Checks.{answer-same}
+use Rattle.dispatch.proofs.Multiplied.{rows-small, inner-small, in-cells}
 use Rattle.dispatch.proofs.multiply.Statement.{statement}
 use Rattle.dispatch.proofs.multiply.Tie as tie
 
-vector-left : tie.Need-returns
-unfolding matrixProduct
-vector-left c =
-    rw (eq-eqb _ _ (c .before .before .before .before .if1 .taken)) (answer-same _ _ _ _ _ _ _ (c .answer-of .ensures) (c .before .vec-mat .ensures) refl)
-
 mul-cells : tie.Need-mul-cells
 mul-cells c =
-    let p = c .before .before .before .before .before .pre in
-    omega (arith, mul-le-mul (p .0 .3) (p .1 .1))
+    let r = c .before .before in
+    let s = r .before .before in
+    let p = s .pre in
+    omega (arith, mul-le-mul (rows-small (eqb (s .args .a .cols) 1) _ _ (p .0) (p .1) _ (r .choose .ensures) .1) (p .1 .1))
 
 cells-requires : tie.Need-cells-requires
 cells-requires c κs =
-    let p = c .before .before .before .before .before .pre in
-    (omega arith, omega arith, omega arith, omega arith, mul-le-mul-left _ (p .1 .1))
+    let r = c .before .before in
+    let s = r .before .before in
+    let p = s .pre in
+    let t = eqb (s .args .a .cols) 1 in
+    let m = rows-small t _ _ (p .0) (p .1) _ (r .choose .ensures) in
+    let n = inner-small t _ _ (p .0) (p .1) _ (c .before .choose2 .ensures) in
+    (m .0, m .1, n .0, n .1, mul-le-mul-left _ (p .1 .1))
 
-matrix-left : tie.Need-returns-2
+in-rounds : tie.Need-returns
 unfolding matrixProduct
-matrix-left c =
-    let d = c .before .before .before .before .before in
-    rw (ne-eqb _ _ (d .if1 .left)) (answer-same _ _ _ _ _ _ _ (c .answer-of2 .ensures) (c .before .cells .ensures) refl)
+in-rounds c =
+    let t = c .before .before .before .before in
+    let a = t .before .before .before .before .before .before .before .args in
+    rw (both (eqb (a .a .cols) 1) _ (t .if1 .taken) .0) (answer-same _ _ _ _ _ _ _ (c .answer-of .ensures) (c .before .vec-mat .ensures) refl)
+
+as-cells : tie.Need-returns-2
+as-cells c =
+    let t = c .before .before .before in
+    let w = t .before .before in
+    let i = w .before .before in
+    let r = i .before in
+    let s = r .before .before in
+    let a = s .args in
+    in-cells (a .stage) (a .ty) (a .a) (a .b) (a .x .now) (a .y .now) (s .pre .1 .1) (r .choose .result) (i .choose2 .result) _ _ (w .cells .result) (w .cells .ensures) _
+    (c .answer-of2 .ensures) _ refl (r .choose .ensures) (i .choose2 .ensures) (c .before .before .choose3 .ensures) (c .before .choose4 .ensures) (t .if1 .left)
 
 pub multiply-spec : {M : Type 1} → statement M
 multiply-spec =
     tie.close
-    (tie.spec (λ c. search needs) (λ c. search needs) (λ c κs. search needs) (λ c κs. search needs) vector-left (λ c. search needs)
-    (λ c. search needs) (λ c. search needs) mul-cells cells-requires (λ c κs. search needs) matrix-left)
+    (tie.spec (λ c κs. search needs) (λ c. search needs) (λ c κs. search needs) (λ c. search needs) (λ c. search needs) mul-cells cells-requires
+    (λ c. search needs) (λ c. search needs) (λ c κs. search needs) (λ c κs. search needs) in-rounds (λ c κs. search needs) (λ c κs. search needs)
+    (λ c κs. search needs) as-cells)

@@ -1,7 +1,8 @@
 //! `compare list FILE [EVERY]`: writes the generated cases (every EVERYth of them) with the Rust text's answers as an `ops` list.
 //! `compare file FILE`: compares the text with the answers of an `ops` list, over that list's cases.
 //! `compare booth [EVERY]`: compares the text with the linked library over the generated cases, every EVERYth of them (feature `booth`).
-//! Ends with status 1 if some difference stands under no line, or, over all generated cases, if some line was never needed.
+//! Ends with status 1 if some difference stands under no line, or, over all generated cases, if some line was never needed or no refused
+//! shift of a direction was met. A difference in nothing but the left operand of a refused shift is one too, and its line says so.
 use std::{env, fs, process::ExitCode};
 
 use runner::{
@@ -67,7 +68,10 @@ fn booth(every: u64) -> Result<bool, String> {
     }
     match failed {
         Some(words) => Err(words),
-        None => Ok(report.unexplained == 0 && unseen.is_empty() && report.covered() == (163_350, 495)),
+        None => {
+            let shifts = report.with_operand.iter().all(|count| *count > 0);
+            Ok(report.unexplained == 0 && unseen.is_empty() && shifts && report.covered() == (163_350, 495))
+        }
     }
 }
 

@@ -19,13 +19,13 @@ returns : tie.Need-returns
 returns c =
     let a = c .before .before .before .before .args in
     let p = c .before .before .l2 .given in
-    rw (p .1) (limited-floor w32 (floorSigned I32) (a .n) (p .0 .0) (a .strict) (picked _ _ (c .if1 .taken)))
+    rw (p .1) (limited-floor w32 floorSigned I32 (a .n) (p .0 .0) (a .strict) (picked _ _ (c .if1 .taken)))
 
 returns-2 : tie.Need-returns-2
 returns-2 c =
     let a = c .before .before .before .before .args in
     let p = c .before .before .l3 .given in
-    rw (p .1) (limited-floor w32 (floorUnsigned U32) (a .n) (p .0 .0) (a .strict) (picked _ _ (c .if2 .taken)))
+    rw (p .1) (limited-floor w32 floorUnsigned U32 (a .n) (p .0 .0) (a .strict) (picked _ _ (c .if2 .taken)))
 
 returns-3 : tie.Need-returns-3
 returns-3 c =
@@ -42,14 +42,14 @@ returns-4 c =
     let f : SFits w32 (p .0 .0) = search needs in
     let g : SFits w32 (c .shr-i32 .result) = search needs in
     let e = ap (λ (z : ℤ). value (I32 z)) (called w32 (λ z. shrZ z (2 ^ reduced w32 (a .n))) g f (c .shr-i32 .ensures)) in
-    rw (p .1) (limited-floor w32 (floorSigned I32) (a .n) (p .0 .0) (a .strict) (e ∙ passed _ _ (c .before .if1 .left)))
+    rw (p .1) (limited-floor w32 floorSigned I32 (a .n) (p .0 .0) (a .strict) (e ∙ passed _ _ (c .before .if1 .left)))
 
 returns-5 : tie.Need-returns-5
 returns-5 c =
     let a = c .before .before .before .before .before .args in
     let p = c .before .before .before .l3 .given in
     let e = ap (λ (n : ℕ). value (U32 n)) (c .shr-u32 .ensures) in
-    rw (p .1) (limited-floor w32 (floorUnsigned U32) (a .n) (p .0 .0) (a .strict) (e ∙ passed _ _ (c .before .if2 .left)))
+    rw (p .1) (limited-floor w32 floorUnsigned U32 (a .n) (p .0 .0) (a .strict) (e ∙ passed _ _ (c .before .if2 .left)))
 
 returns-6 : tie.Need-returns-6
 returns-6 c = no-floor (c .before .args .strict) (c .before .args .l) (c .before .args .n) (c .match .keys4)
