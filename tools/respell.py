@@ -71,7 +71,7 @@ def foreign(text):
 def clauses(text):
     """The parts of a .rt file that are antt: what stands in a clause's braces, and `ghost use` items."""
     spans = [(m.start(), m.end()) for m in re.finditer(r"(?m)^\s*ghost use [^;]*;", text)]
-    for m in re.finditer(r"(?m)^\s*(?:requires|ensures|ghost)\b[^{};]*\{", text):
+    for m in re.finditer(r"(?m)^\s*(?:requires|ensures)\b[^{};]*\{", text):
         at, depth = m.end(), 1
         while depth:
             depth += {"{": 1, "}": -1}.get(text[at], 0)

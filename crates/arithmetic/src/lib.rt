@@ -1,12 +1,12 @@
 // `+ - * / %`, by their codes 3 to 7, and negation.
-ghost use Rattle.std.specs.Prelude.{◌≡◌};◌≡◌};
-ghost use Rattle.std.specs.Float.Ieee.{neg};neg};
-ghost use Rattle.rounding.specs.Kind.{double, half, single};double, half, single};
-ghost use Rattle.rounding.specs.Bits.{to_bits, of_bits};to_bits, of_bits};
-ghost use Rattle.value.specs.Answer.{answer_of};answer_of};
-ghost use Rattle.arithmetic.specs.Arithmetic.{add_of, arithmetic_by, div_of, mul_of, neg_of, rem_of, sub_of};add_of, arithmetic_by, div_of, mul_of, neg_of, rem_of, sub_of};
-ghost use Rattle.arithmetic.specs.Arithmetic.{float_by, half_bits, in_exec, not_finite, signed_quotient_or, whole_or, whole_quotient_or};float_by, half_bits, in_exec, not_finite, signed_quotient_or, whole_or, whole_quotient_or};
-ghost use Rattle.conversion.specs.Convert.{common_of};common_of};
+ghost use Rattle.std.specs.Prelude.{◌≡◌};
+ghost use Rattle.std.specs.Float.Ieee.{neg};
+ghost use Rattle.rounding.specs.Kind.{double, half, single};
+ghost use Rattle.rounding.specs.Bits.{to_bits, of_bits};
+ghost use Rattle.value.specs.Answer.{answer_of};
+ghost use Rattle.arithmetic.specs.Arithmetic.{add_of, arithmetic_by, div_of, mul_of, neg_of, rem_of, sub_of};
+ghost use Rattle.arithmetic.specs.Arithmetic.{float_by, half_bits, in_exec, not_finite, signed_quotient_or, whole_or, whole_quotient_or};
+ghost use Rattle.conversion.specs.Convert.{common_of};
 
 use conversion::common::common;
 use integer::{Whole, wrapping};

@@ -1,6 +1,6 @@
 // The changes that a command asks for.
-ghost use Rattle.std.specs.Prelude.{◌≡◌, ◌+◌, ◌*◌, ◌^◌, ◌<◌};◌≡◌, ◌+◌, ◌*◌, ◌^◌, ◌<◌};
-ghost use Rattle.asked.specs.Asked.{asked_at, asked_from, first_bad};asked_at, asked_from, first_bad};
+ghost use Rattle.std.specs.Prelude.{◌≡◌, ◌+◌, ◌*◌, ◌^◌, ◌<◌};
+ghost use Rattle.asked.specs.Asked.{asked_at, asked_from, first_bad};
 
 use words::Spelled;
 

@@ -1,7 +1,7 @@
 // The sheet's name among the words.
-ghost use Rattle.std.specs.Prelude.{◌≡◌, ◌≤◌};◌≡◌, ◌≤◌};
-ghost use Rattle.words.specs.Split.{WordOf};WordOf};
-ghost use Rattle.asked.specs.Asked.{dash_v, sheet_at};dash_v, sheet_at};
+ghost use Rattle.std.specs.Prelude.{◌≡◌, ◌≤◌};
+ghost use Rattle.words.specs.Split.{WordOf};
+ghost use Rattle.asked.specs.Asked.{dash_v, sheet_at};
 
 // Whether a word is `-v`.
 fn dash_v(w: &[u8]) -> bool

@@ -1,9 +1,9 @@
 // `|`, `&` and `^`, bit by bit: one function for the three, by their codes 14 to 16.
-ghost use Rattle.std.specs.Prelude.{◌≡◌};◌≡◌};
-ghost use Rattle.std.specs.Int.{w32, w64};w32, w64};
-ghost use Rattle.value.specs.Answer.{answer_of};answer_of};
-ghost use Rattle.bitwise.specs.Bits.{bit_and_of, bit_not_of, bit_or_of, bit_xor_of, bits_by, bitwise, signed_bits, truths_by};bit_and_of, bit_not_of, bit_or_of, bit_xor_of, bits_by, bitwise, signed_bits, truths_by};
-ghost use Rattle.conversion.specs.Convert.{common_of};common_of};
+ghost use Rattle.std.specs.Prelude.{◌≡◌};
+ghost use Rattle.std.specs.Int.{w32, w64};
+ghost use Rattle.value.specs.Answer.{answer_of};
+ghost use Rattle.bitwise.specs.Bits.{bit_and_of, bit_not_of, bit_or_of, bit_xor_of, bits_by, bitwise, signed_bits, truths_by};
+ghost use Rattle.conversion.specs.Convert.{common_of};
 
 use conversion::common::common;
 use integer::patterns;

@@ -1,9 +1,9 @@
 // `<<` and `>>`: the left operand is an integer, the count converts to U32.
-ghost use Rattle.std.specs.Prelude.{◌≡◌};◌≡◌};
-ghost use Rattle.integer.specs.Range.{pick};pick};
-ghost use Rattle.value.specs.Answer.{answer_of};answer_of};
-ghost use Rattle.conversion.specs.Convert.{convert_to};convert_to};
-ghost use Rattle.bitwise.specs.Shift.{by_count, shift_by, shl_exact, shl_of, shl_wrapped, shr_exact, shr_of, shr_reduced, signed_shl, unsigned_shl, whole_shl};by_count, shift_by, shl_exact, shl_of, shl_wrapped, shr_exact, shr_of, shr_reduced, signed_shl, unsigned_shl, whole_shl};
+ghost use Rattle.std.specs.Prelude.{◌≡◌};
+ghost use Rattle.integer.specs.Range.{pick};
+ghost use Rattle.value.specs.Answer.{answer_of};
+ghost use Rattle.conversion.specs.Convert.{convert_to};
+ghost use Rattle.bitwise.specs.Shift.{by_count, shift_by, shl_exact, shl_of, shl_wrapped, shr_exact, shr_of, shr_reduced, signed_shl, unsigned_shl, whole_shl};
 
 use conversion::convert::convert;
 use integer::Whole;

@@ -1,7 +1,7 @@
 // The direct calls: operands from bytes, and the answer into a slot.
-ghost use Rattle.std.specs.Prelude.{◌≡◌, ◌*◌, ◌≤◌};◌≡◌, ◌*◌, ◌≤◌};
-ghost use Rattle.dispatch.specs.Meaning.{binary_meaning};binary_meaning};
-ghost use Rattle.booth.specs.Operand.{no_operand, operand_in, call_refused, fills, direct_answer, direct_bytes, scalar_in};no_operand, operand_in, call_refused, fills, direct_answer, direct_bytes, scalar_in};
+ghost use Rattle.std.specs.Prelude.{◌≡◌, ◌*◌, ◌≤◌};
+ghost use Rattle.dispatch.specs.Meaning.{binary_meaning};
+ghost use Rattle.booth.specs.Operand.{no_operand, operand_in, call_refused, fills, direct_answer, direct_bytes, scalar_in};
 
 use crate::pack;
 use operand::{Instance, Outcome};

@@ -3,14 +3,14 @@
 mod direct;
 mod marks; // marks.rt: the marks of a change
 
-ghost use Rattle.std.specs.Prelude.{◌≡◌};◌≡◌};
-ghost use Rattle.dispatch.specs.Meaning.{unary_meaning, binary_meaning};unary_meaning, binary_meaning};
-ghost use Rattle.sheet.specs.Sheet.{read_sheet, counted_of};read_sheet, counted_of};
-ghost use Rattle.fold.specs.Fresh.{fresh_answer, fresh_bytes};fresh_answer, fresh_bytes};
-ghost use Rattle.fold.specs.Change.{change_answer, change_bytes};change_answer, change_bytes};
-ghost use Rattle.booth.specs.Answer.{packed_answer, packed_fold};packed_answer, packed_fold};
-ghost use Rattle.booth.specs.Marks.{marks_answer, marks_results, marks_bytes};marks_answer, marks_results, marks_bytes};
-ghost use Rattle.booth.specs.Operand.{operand_in, direct_answer, direct_bytes};operand_in, direct_answer, direct_bytes};
+ghost use Rattle.std.specs.Prelude.{◌≡◌};
+ghost use Rattle.dispatch.specs.Meaning.{unary_meaning, binary_meaning};
+ghost use Rattle.sheet.specs.Sheet.{read_sheet, counted_of};
+ghost use Rattle.fold.specs.Fresh.{fresh_answer, fresh_bytes};
+ghost use Rattle.fold.specs.Change.{change_answer, change_bytes};
+ghost use Rattle.booth.specs.Answer.{packed_answer, packed_fold};
+ghost use Rattle.booth.specs.Marks.{marks_answer, marks_results, marks_bytes};
+ghost use Rattle.booth.specs.Operand.{operand_in, direct_answer, direct_bytes};
 
 use direct::One;
 use low::Counted;

@@ -1,7 +1,7 @@
 // The marks of a change: a byte for each of 128 entries.
-ghost use Rattle.std.specs.Prelude.{◌≡◌, length};◌≡◌, length};
-ghost use Rattle.sheet.specs.Sheet.{read_sheet};read_sheet};
-ghost use Rattle.booth.specs.Marks.{mark_byte, mark_bytes, other_size};mark_byte, mark_bytes, other_size};
+ghost use Rattle.std.specs.Prelude.{◌≡◌, length};
+ghost use Rattle.sheet.specs.Sheet.{read_sheet};
+ghost use Rattle.booth.specs.Marks.{mark_byte, mark_bytes, other_size};
 
 use low::Counted;
 use value::refusals;

@@ -6,8 +6,8 @@ pub mod scalars;
 pub mod shapes;
 pub mod slots;
 
-ghost use Rattle.std.specs.Prelude.{◌≡◌};◌≡◌};
-ghost use Rattle.cases.specs.Judged.{answered_so};answered_so};
+ghost use Rattle.std.specs.Prelude.{◌≡◌};
+ghost use Rattle.cases.specs.Judged.{answered_so};
 
 // Whether a packed answer is what a record says: a number in one byte, and its detail in four.
 pub fn answers(answer: u64, said: &[u8]) -> bool

@@ -1,8 +1,8 @@
 // Operators on bytes, through the C functions: the value goes into a slot.
-ghost use Rattle.std.specs.Prelude.{◌≡◌, ◌≤◌};◌≡◌, ◌≤◌};
-ghost use Rattle.booth.specs.Operand.{direct_answer, direct_bytes};direct_answer, direct_bytes};
-ghost use Rattle.cases.specs.Record.{laid_out, used_in, operand_of_c, asked_by};laid_out, used_in, operand_of_c, asked_by};
-ghost use Rattle.cases.specs.Judged.{operator_right};operator_right};
+ghost use Rattle.std.specs.Prelude.{◌≡◌, ◌≤◌};
+ghost use Rattle.booth.specs.Operand.{direct_answer, direct_bytes};
+ghost use Rattle.cases.specs.Record.{laid_out, used_in, operand_of_c, asked_by};
+ghost use Rattle.cases.specs.Judged.{operator_right};
 
 use crate::{answers, record};
 

@@ -1,9 +1,9 @@
 // A record of an operator: kind (1 unary, 2 binary), operator, stage, one or two operands, then status, detail and value. An operand is
 // type, columns, rows, how many components follow, and those, of eight bytes each.
-ghost use Rattle.std.specs.Prelude.{◌≡◌, ◌≤◌};◌≡◌, ◌≤◌};
-ghost use Rattle.slot.specs.Slot.{bytes_of};bytes_of};
-ghost use Rattle.cases.specs.Record.{components_in, instance_in, second_place, answer_in, outcome_in};components_in, instance_in, second_place, answer_in, outcome_in};
-ghost use Rattle.cases.specs.Judged.{same};same};
+ghost use Rattle.std.specs.Prelude.{◌≡◌, ◌≤◌};
+ghost use Rattle.slot.specs.Slot.{bytes_of};
+ghost use Rattle.cases.specs.Record.{components_in, instance_in, second_place, answer_in, outcome_in};
+ghost use Rattle.cases.specs.Judged.{same};
 
 use operand::{Instance, Outcome};
 

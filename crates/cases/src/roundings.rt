@@ -1,6 +1,6 @@
 // Conversions of numbers: what is asked, seven zeros, eight bytes in and the eight that must come out.
-ghost use Rattle.std.specs.Prelude.{◌≡◌};◌≡◌};
-ghost use Rattle.cases.specs.Judged.{conversion_of, rounding_right};conversion_of, rounding_right};
+ghost use Rattle.std.specs.Prelude.{◌≡◌};
+ghost use Rattle.cases.specs.Judged.{conversion_of, rounding_right};
 
 use integer::patterns::i64_of_bits;
 

@@ -1,8 +1,8 @@
 // Operators on scalars, under the names that they have in Rust.
-ghost use Rattle.std.specs.Prelude.{◌≡◌};◌≡◌};
-ghost use Rattle.value.specs.Answer.{answer_of};answer_of};
-ghost use Rattle.cases.specs.Scalars.{unary_by, binary_by, scalar_read, packed_result, value_said};unary_by, binary_by, scalar_read, packed_result, value_said};
-ghost use Rattle.cases.specs.Judged.{result_said, scalar_right};result_said, scalar_right};
+ghost use Rattle.std.specs.Prelude.{◌≡◌};
+ghost use Rattle.value.specs.Answer.{answer_of};
+ghost use Rattle.cases.specs.Scalars.{unary_by, binary_by, scalar_read, packed_result, value_said};
+ghost use Rattle.cases.specs.Judged.{result_said, scalar_right};
 
 use crate::answers;
 use bitwise::{bits, shifts};

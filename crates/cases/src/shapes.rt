@@ -1,7 +1,7 @@
 // Operators on operands of sixteen components. Those beyond the shape's are to be ignored; an operand of C's has no place for them.
-ghost use Rattle.std.specs.Prelude.{◌≡◌};◌≡◌};
-ghost use Rattle.cases.specs.Record.{instance_in, asked_by};instance_in, asked_by};
-ghost use Rattle.cases.specs.Judged.{shape_right};shape_right};
+ghost use Rattle.std.specs.Prelude.{◌≡◌};
+ghost use Rattle.cases.specs.Record.{instance_in, asked_by};
+ghost use Rattle.cases.specs.Judged.{shape_right};
 
 use crate::record;
 use operand::Outcome;

@@ -1,6 +1,6 @@
 // Slots: their 136 bytes, and 1 where they are well formed.
-ghost use Rattle.std.specs.Prelude.{◌≡◌};◌≡◌};
-ghost use Rattle.cases.specs.Judged.{slot_right};slot_right};
+ghost use Rattle.std.specs.Prelude.{◌≡◌};
+ghost use Rattle.cases.specs.Judged.{slot_right};
 
 // Whether the test for well-formed slots answers what a record says.
 pub fn is_right(case: &[u8]) -> bool

@@ -4,10 +4,10 @@ mod pages;
 mod show;
 mod whole;
 
-ghost use Rattle.std.specs.Prelude.{◌≤◌, length};◌≤◌, length};
-ghost use Rattle.io.specs.Counts.{IsPrefixLen};IsPrefixLen};
-ghost use Rattle.text.specs.Text.{Put};Put};
-ghost use Rattle.command.specs.Listing.{listing_of, printed};listing_of, printed};
+ghost use Rattle.std.specs.Prelude.{◌≤◌, length};
+ghost use Rattle.io.specs.Counts.{IsPrefixLen};
+ghost use Rattle.text.specs.Text.{Put};
+ghost use Rattle.command.specs.Listing.{listing_of, printed};
 
 use libc::STDOUT_FILENO;
 

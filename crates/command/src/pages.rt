@@ -1,10 +1,10 @@
 // The pages of a sheet: its fresh results, and each change of them.
-ghost use Rattle.std.specs.Prelude.{◌≡◌, ◌+◌, ◌*◌, ◌^◌, ◌≤◌, ◌<◌};◌≡◌, ◌+◌, ◌*◌, ◌^◌, ◌≤◌, ◌<◌};
-ghost use Rattle.sheet.specs.Sheet.{read_sheet};read_sheet};
-ghost use Rattle.asked.specs.Asked.{asked_at, asked_from};asked_at, asked_from};
-ghost use Rattle.command.specs.Listing.{page, moved_page, change_page, after_change, change_pages, entries_of, pages};page, moved_page, change_page, after_change, change_pages, entries_of, pages};
+ghost use Rattle.std.specs.Prelude.{◌≡◌, ◌+◌, ◌*◌, ◌^◌, ◌≤◌, ◌<◌};
+ghost use Rattle.sheet.specs.Sheet.{read_sheet};
+ghost use Rattle.asked.specs.Asked.{asked_at, asked_from};
+ghost use Rattle.command.specs.Listing.{page, moved_page, change_page, after_change, change_pages, entries_of, pages};
 ghost use Rattle.asked.specs.declared.asked.Asked.TheVariants as asked;
-ghost use Rattle.command.specs.Inside.{Shows};Shows};
+ghost use Rattle.command.specs.Inside.{Shows};
 
 use crate::show;
 use asked::{Asked, change_at};

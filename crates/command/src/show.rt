@@ -1,8 +1,8 @@
 // Texts at a place of a buffer, as much of them as it has room for. Each says the place after the whole text.
-ghost use Rattle.std.specs.Prelude.{◌≡◌, ◌∷◌, [], ◌+◌, ◌^◌, ◌<◌, length};◌≡◌, ◌∷◌, [], ◌+◌, ◌^◌, ◌<◌, length};
-ghost use Rattle.low.specs.Bytes.{patch};patch};
-ghost use Rattle.command.specs.Inside.{Shows, fitting};Shows, fitting};
-ghost use Rattle.command.specs.Listing.{complaint};complaint};
+ghost use Rattle.std.specs.Prelude.{◌≡◌, ◌∷◌, [], ◌+◌, ◌^◌, ◌<◌, length};
+ghost use Rattle.low.specs.Bytes.{patch};
+ghost use Rattle.command.specs.Inside.{Shows, fitting};
+ghost use Rattle.command.specs.Listing.{complaint};
 
 // One byte, where there is room.
 fn byte(out: &mut [u8], at: usize, c: u8)

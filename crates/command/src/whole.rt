@@ -1,9 +1,9 @@
 // The whole text of a command.
-ghost use Rattle.std.specs.Prelude.{◌≡◌, ◌+◌, ◌≤◌, ◌<◌, length};◌≡◌, ◌+◌, ◌≤◌, ◌<◌, length};
-ghost use Rattle.words.specs.Split.{word_count};word_count};
-ghost use Rattle.asked.specs.Asked.{sheet_at, words_after};sheet_at, words_after};
-ghost use Rattle.command.specs.Inside.{Shows};Shows};
-ghost use Rattle.command.specs.Listing.{listing_of, judged_text};listing_of, judged_text};
+ghost use Rattle.std.specs.Prelude.{◌≡◌, ◌+◌, ◌≤◌, ◌<◌, length};
+ghost use Rattle.words.specs.Split.{word_count};
+ghost use Rattle.asked.specs.Asked.{sheet_at, words_after};
+ghost use Rattle.command.specs.Inside.{Shows};
+ghost use Rattle.command.specs.Listing.{listing_of, judged_text};
 
 use crate::{pages, show};
 use asked::{first_bad, sheet_at};

@@ -1,6 +1,6 @@
 // Work component by component, from 0 up, until one refuses.
-ghost use Rattle.std.specs.Prelude.{◌≡◌, ◌+◌, ◌*◌, ◌≤◌, ◌<◌};◌≡◌, ◌+◌, ◌*◌, ◌≤◌, ◌<◌};
-ghost use Rattle.components.specs.Components.{got, run_result, each_component, ended_by, lane, binary_at, unary_at, converted_at, Inside};got, run_result, each_component, ended_by, lane, binary_at, unary_at, converted_at, Inside};
+ghost use Rattle.std.specs.Prelude.{◌≡◌, ◌+◌, ◌*◌, ◌≤◌, ◌<◌};
+ghost use Rattle.components.specs.Components.{got, run_result, each_component, ended_by, lane, binary_at, unary_at, converted_at, Inside};
 
 use scalar::{Conv, Step};
 use value::Refusal;

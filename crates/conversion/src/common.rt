@@ -1,7 +1,7 @@
 // The common type of two operands.
-ghost use Rattle.std.specs.Prelude.{◌≡◌};◌≡◌};
-ghost use Rattle.conversion.specs.Convert.{common_of, kept_pair};common_of, kept_pair};
-ghost use Rattle.value.specs.Pair.{pair_of};pair_of};
+ghost use Rattle.std.specs.Prelude.{◌≡◌};
+ghost use Rattle.conversion.specs.Convert.{common_of, kept_pair};
+ghost use Rattle.value.specs.Pair.{pair_of};
 
 use crate::convert::convert;
 use types::CommonType;

@@ -1,6 +1,6 @@
 // The conversions, a function for each target.
-ghost use Rattle.std.specs.Prelude.{◌≡◌};◌≡◌};
-ghost use Rattle.conversion.specs.Convert.{convert_to, from_float, from_int, int_to_f16, int_to_f32, int_to_float, int_to_i32, int_to_u32, float_to_f16, float_to_f32, stands, when_finite};convert_to, from_float, from_int, int_to_f16, int_to_f32, int_to_float, int_to_i32, int_to_u32, float_to_f16, float_to_f32, stands, when_finite};
+ghost use Rattle.std.specs.Prelude.{◌≡◌};
+ghost use Rattle.conversion.specs.Convert.{convert_to, from_float, from_int, int_to_f16, int_to_f32, int_to_float, int_to_i32, int_to_u32, float_to_f16, float_to_f32, stands, when_finite};
 
 use value::pattern::kept_scalar;
 use value::{Found, Scalar, type_of};

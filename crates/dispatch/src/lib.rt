@@ -1,10 +1,10 @@
 // An operator on operands of any shape: shape pair, common type, conversions, equal shape, the type's right, components.
-ghost use Rattle.std.specs.Prelude.{◌≡◌, true};◌≡◌, true};
-ghost use Rattle.value.specs.Pattern.{pick};pick};
-ghost use Rattle.operand.specs.Operand.{in_shape, Small, operand_formed};in_shape, Small, operand_formed};
-ghost use Rattle.components.specs.Components.{run_result, stride_of};run_result, stride_of};
-ghost use Rattle.pairing.specs.Pairing.{targets_of};targets_of};
-ghost use Rattle.dispatch.specs.Meaning.{shaped_answer, by_component, matrix_product, on_converted, converted_to, judged, unary_judged};shaped_answer, by_component, matrix_product, on_converted, converted_to, judged, unary_judged};
+ghost use Rattle.std.specs.Prelude.{◌≡◌, true};
+ghost use Rattle.value.specs.Pattern.{pick};
+ghost use Rattle.operand.specs.Operand.{in_shape, Small, operand_formed};
+ghost use Rattle.components.specs.Components.{run_result, stride_of};
+ghost use Rattle.pairing.specs.Pairing.{targets_of};
+ghost use Rattle.dispatch.specs.Meaning.{shaped_answer, by_component, matrix_product, on_converted, converted_to, judged, unary_judged};
 
 use components::{Run, converted, steps, unary_steps};
 use operand::{

@@ -1,5 +1,5 @@
 // Which entries depend on an entry: one pass over the records after it, for each reference names an earlier entry.
-ghost use Rattle.entries.specs.Inside.{Here, Turns, Ready, Dependents};Here, Turns, Ready, Dependents};
+ghost use Rattle.entries.specs.Inside.{Here, Turns, Ready, Dependents};
 
 use crate::Advance;
 use crate::spans::span_at;

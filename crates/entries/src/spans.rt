@@ -1,7 +1,7 @@
 // The record at a place, by its head alone: nothing is judged again.
-ghost use Rattle.std.specs.Prelude.{◌≡◌};◌≡◌};
-ghost use Rattle.sheet.specs.Sheet.{read_sheet};read_sheet};
-ghost use Rattle.entries.specs.Records.{begins_in, span_of, place_after, setting_of};begins_in, span_of, place_after, setting_of};
+ghost use Rattle.std.specs.Prelude.{◌≡◌};
+ghost use Rattle.sheet.specs.Sheet.{read_sheet};
+ghost use Rattle.entries.specs.Records.{begins_in, span_of, place_after, setting_of};
 
 use crate::{Setting, Span};
 use sheet::{Head, Kind};

@@ -1,7 +1,7 @@
 // Exact sums, differences and products of 64 bits, with an own test of overflow.
-ghost use Rattle.std.specs.Prelude.{◌≡◌, cond, not, ◌*◌, pos, neg_ℤ, ◌+ℤ◌, ◌-ℤ◌, ◌*ℤ◌};◌≡◌, cond, not, ◌*◌, pos, neg_ℤ, ◌+ℤ◌, ◌-ℤ◌, ◌*ℤ◌};
-ghost use Rattle.std.specs.Int.{w64};w64};
-ghost use Rattle.integer.specs.Range.{whole_of, in_signed, in_unsigned};whole_of, in_signed, in_unsigned};
+ghost use Rattle.std.specs.Prelude.{◌≡◌, cond, not, ◌*◌, pos, neg_ℤ, ◌+ℤ◌, ◌-ℤ◌, ◌*ℤ◌};
+ghost use Rattle.std.specs.Int.{w64};
+ghost use Rattle.integer.specs.Range.{whole_of, in_signed, in_unsigned};
 
 use integer::{Whole, patterns};
 

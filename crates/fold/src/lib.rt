@@ -2,10 +2,10 @@
 mod marked; // marked.rt: the marked entries of an accepted sheet, worked in rising order
 mod turns; // turns.rt: the checks of a change, and the change
 
-ghost use Rattle.std.specs.Prelude.{◌≡◌};◌≡◌};
-ghost use Rattle.sheet.specs.Sheet.{read_sheet, counted_of};read_sheet, counted_of};
-ghost use Rattle.fold.specs.Fresh.{fresh_answer, fresh_bytes};fresh_answer, fresh_bytes};
-ghost use Rattle.fold.specs.Change.{change_answer, change_bytes, change_marks};change_answer, change_bytes, change_marks};
+ghost use Rattle.std.specs.Prelude.{◌≡◌};
+ghost use Rattle.sheet.specs.Sheet.{read_sheet, counted_of};
+ghost use Rattle.fold.specs.Fresh.{fresh_answer, fresh_bytes};
+ghost use Rattle.fold.specs.Change.{change_answer, change_bytes, change_marks};
 
 use low::Counted;
 use value::refusals;

@@ -1,6 +1,6 @@
 // The marked entries of an accepted sheet, worked in rising order, each over the slots as they then stand.
-ghost use Rattle.entries.specs.Inside.{Here};Here};
-ghost use Rattle.fold.specs.Inside.{Placed, Works, WorksAll};Placed, Works, WorksAll};
+ghost use Rattle.entries.specs.Inside.{Here};
+ghost use Rattle.fold.specs.Inside.{Placed, Works, WorksAll};
 
 // Entry k's turn: if it is marked, its slot becomes what it means over the slots as they stand. Answers the place after its record.
 fn turn(s: &[u8], results: &mut [u8], marks: &[bool; 128], k: usize, at: usize) -> usize

@@ -1,11 +1,11 @@
 // The change of a setting: its checks, its content, and the turn of each dependent.
-ghost use Rattle.std.specs.Prelude.{◌≡◌, ◌*◌, eqb, length};◌≡◌, ◌*◌, eqb, length};
-ghost use Rattle.low.specs.Read.{must};must};
-ghost use Rattle.value.specs.Pattern.{proper_of};proper_of};
-ghost use Rattle.slot.specs.Slot.{put};put};
-ghost use Rattle.entries.specs.Inside.{Ready};Ready};
-ghost use Rattle.fold.specs.Change.{content, content_bytes};content, content_bytes};
-ghost use Rattle.fold.specs.Inside.{Found, Judged, Applied};Found, Judged, Applied};
+ghost use Rattle.std.specs.Prelude.{◌≡◌, ◌*◌, eqb, length};
+ghost use Rattle.low.specs.Read.{must};
+ghost use Rattle.value.specs.Pattern.{proper_of};
+ghost use Rattle.slot.specs.Slot.{put};
+ghost use Rattle.entries.specs.Inside.{Ready};
+ghost use Rattle.fold.specs.Change.{content, content_bytes};
+ghost use Rattle.fold.specs.Inside.{Found, Judged, Applied};
 
 use crate::marked::work_marked;
 use entries::Setting;

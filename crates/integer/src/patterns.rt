@@ -1,8 +1,8 @@
 // A signed integer and its bits, as an unsigned integer of the same width.
-ghost use Rattle.std.specs.Prelude.{◌≡◌, unsigned_abs};◌≡◌, unsigned_abs};
-ghost use Rattle.std.specs.Int.{w32, w64};w32, w64};
-ghost use Rattle.std.proofs.Common.{to_z, of_z};to_z, of_z};
-ghost use Rattle.integer.specs.Wrap.{not_z, not_u};not_z, not_u};
+ghost use Rattle.std.specs.Prelude.{◌≡◌, unsigned_abs};
+ghost use Rattle.std.specs.Int.{w32, w64};
+ghost use Rattle.std.proofs.Common.{to_z, of_z};
+ghost use Rattle.integer.specs.Wrap.{not_z, not_u};
 
 // The bits of x, as a number.
 pub fn bits_i32(x: i32) -> u32

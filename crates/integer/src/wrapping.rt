@@ -1,7 +1,7 @@
 // Sums, differences, products and negations that wrap around: the exact result reduced modulo a power of two.
-ghost use Rattle.std.specs.Prelude.{◌≡◌, pos, ◌+ℤ◌, ◌-ℤ◌, ◌*ℤ◌, neg_ℤ};◌≡◌, pos, ◌+ℤ◌, ◌-ℤ◌, ◌*ℤ◌, neg_ℤ};
-ghost use Rattle.std.specs.Int.{w32, w64};w32, w64};
-ghost use Rattle.integer.specs.Wrap.{wrap_u, wrap_s};wrap_u, wrap_s};
+ghost use Rattle.std.specs.Prelude.{◌≡◌, pos, ◌+ℤ◌, ◌-ℤ◌, ◌*ℤ◌, neg_ℤ};
+ghost use Rattle.std.specs.Int.{w32, w64};
+ghost use Rattle.integer.specs.Wrap.{wrap_u, wrap_s};
 
 use crate::patterns::{bits_i32, bits_i64, i32_of_bits, i64_of_bits};
 

@@ -1,5 +1,5 @@
 // Lists a sheet of constants and changes its settings: `listing [-v] SHEET [ENTRY TYPE BITS]...`.
-ghost use Rattle.std.specs.Prelude.{◌≤◌, length};◌≤◌, length};
+ghost use Rattle.std.specs.Prelude.{◌≤◌, length};
 
 // The program's words at the start of a line, each ended by a byte 0. Says how many bytes they take; words that do not fit take the whole line.
 fn join(line: &mut [u8]) -> usize

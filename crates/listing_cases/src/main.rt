@@ -1,6 +1,6 @@
 // Runs the command `listing` on each line of standard input, with a space between two words, and prints the line before what the
 // command prints.
-ghost use Rattle.std.specs.Prelude.{◌≤◌, length};◌≤◌, length};
+ghost use Rattle.std.specs.Prelude.{◌≤◌, length};
 
 use libc::{STDIN_FILENO, STDOUT_FILENO};
 

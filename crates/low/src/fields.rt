@@ -1,7 +1,7 @@
 // Fields of a string of bytes. A byte past its end reads as 0, so that no place needs a proof.
-ghost use Rattle.std.specs.Prelude.{◌≡◌, ◌*◌, ◌-◌, ◌<◌, length, get_or};◌≡◌, ◌*◌, ◌-◌, ◌<◌, length, get_or};
-ghost use Rattle.low.specs.Bytes.{whole, part, numbers};whole, part, numbers};
-ghost use Rattle.low.specs.Part.{PartOf};PartOf};
+ghost use Rattle.std.specs.Prelude.{◌≡◌, ◌*◌, ◌-◌, ◌<◌, length, get_or};
+ghost use Rattle.low.specs.Bytes.{whole, part, numbers};
+ghost use Rattle.low.specs.Part.{PartOf};
 
 use crate::words::{get64, wide};
 

@@ -1,6 +1,6 @@
 // Numbers in bytes that are all there: no place is tested.
-ghost use Rattle.std.specs.Prelude.{◌≡◌, ◌+◌, ◌≤◌, ◌<◌, length};◌≡◌, ◌+◌, ◌≤◌, ◌<◌, length};
-ghost use Rattle.low.specs.Bytes.{lows, whole, part, patch, eights, numbers};lows, whole, part, patch, eights, numbers};
+ghost use Rattle.std.specs.Prelude.{◌≡◌, ◌+◌, ◌≤◌, ◌<◌, length};
+ghost use Rattle.low.specs.Bytes.{lows, whole, part, patch, eights, numbers};
 
 // A byte, as a number that sums can hold.
 pub(crate) fn wide(x: u8) -> u64

@@ -1,9 +1,9 @@
 // Scalars, vectors and matrices as one flat record: which of them are well formed, and what an operator answers.
-ghost use Rattle.std.specs.Prelude.{◌≡◌, ◌≤◌};◌≡◌, ◌≤◌};
-ghost use Rattle.value.specs.Pattern.{proper_of};proper_of};
-ghost use Rattle.operand.specs.Operand.{shape_ok, in_shape, is_scalar, is_vector, is_matrix, component_count, Small, every, component_at, operand_formed, a_scalar};shape_ok, in_shape, is_scalar, is_vector, is_matrix, component_count, Small, every, component_at, operand_formed, a_scalar};
-ghost use Rattle.low.specs.Bytes.{up_to};up_to};
-ghost use Rattle.operand.specs.Outcome.{refused_with, refused_as, value_of};refused_with, refused_as, value_of};
+ghost use Rattle.std.specs.Prelude.{◌≡◌, ◌≤◌};
+ghost use Rattle.value.specs.Pattern.{proper_of};
+ghost use Rattle.operand.specs.Operand.{shape_ok, in_shape, is_scalar, is_vector, is_matrix, component_count, Small, every, component_at, operand_formed, a_scalar};
+ghost use Rattle.low.specs.Bytes.{up_to};
+ghost use Rattle.operand.specs.Outcome.{refused_with, refused_as, value_of};
 
 use value::Refusal;
 

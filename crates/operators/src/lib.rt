@@ -1,7 +1,7 @@
 // The operators under the Rust's names, on scalars, vectors and matrices. One whose answer depends on no stage takes none.
-ghost use Rattle.std.specs.Prelude.{◌≡◌};◌≡◌};
-ghost use Rattle.pairing.specs.Pairing.{stage_code};stage_code};
-ghost use Rattle.dispatch.specs.Meaning.{unary_meaning, binary_meaning};unary_meaning, binary_meaning};
+ghost use Rattle.std.specs.Prelude.{◌≡◌};
+ghost use Rattle.pairing.specs.Pairing.{stage_code};
+ghost use Rattle.dispatch.specs.Meaning.{unary_meaning, binary_meaning};
 
 use operand::{Instance, Outcome};
 use pairing::stage_code;

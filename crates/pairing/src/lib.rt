@@ -1,6 +1,6 @@
 // Which codes name an operator or a stage, and which shapes and types an operator takes.
-ghost use Rattle.std.specs.Prelude.{◌≡◌};◌≡◌};
-ghost use Rattle.pairing.specs.Pairing.{op_known, unary_known, stage_code, stage_known, call_fault, pair_ok, targets_of, is_product, inner_ok, same_shape, fits_of, misfit_of, result_shape};op_known, unary_known, stage_code, stage_known, call_fault, pair_ok, targets_of, is_product, inner_ok, same_shape, fits_of, misfit_of, result_shape};
+ghost use Rattle.std.specs.Prelude.{◌≡◌};
+ghost use Rattle.pairing.specs.Pairing.{op_known, unary_known, stage_code, stage_known, call_fault, pair_ok, targets_of, is_product, inner_ok, same_shape, fits_of, misfit_of, result_shape};
 
 use operand::{Shape, is_matrix, is_scalar, is_vector};
 use types::CommonType;

@@ -1,7 +1,7 @@
 // Sums of products: p0, p1, p0 + p1, p2 and so on, each step rounded and checked.
-ghost use Rattle.std.specs.Prelude.{◌≡◌, ◌-◌, ◌*◌, ◌≤◌, ◌<◌};◌≡◌, ◌-◌, ◌*◌, ◌≤◌, ◌<◌};
-ghost use Rattle.components.specs.Components.{run_result, step_result, each_component, lane, Inside};run_result, step_result, each_component, lane, Inside};
-ghost use Rattle.products.specs.Products.{plus_next, plus_all, dot_of, cell_at, times_row, vector_matrix};plus_next, plus_all, dot_of, cell_at, times_row, vector_matrix};
+ghost use Rattle.std.specs.Prelude.{◌≡◌, ◌-◌, ◌*◌, ◌≤◌, ◌<◌};
+ghost use Rattle.components.specs.Components.{run_result, step_result, each_component, lane, Inside};
+ghost use Rattle.products.specs.Products.{plus_next, plus_all, dot_of, cell_at, times_row, vector_matrix};
 
 use components::{Run, ended, entry, finished, steps};
 use scalar::Step;

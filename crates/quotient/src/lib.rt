@@ -1,10 +1,10 @@
 // Signed quotients that truncate and remainders that take the left sign, where there are any: there is none for a zero divisor and
 // for the minimum by -1.
-ghost use Rattle.std.specs.Prelude.{◌≡◌};◌≡◌};
-ghost use Rattle.std.specs.Int.Signed.{quot_z, rem_z};quot_z, rem_z};
-ghost use Rattle.std.specs.Int.{w32, w64};w32, w64};
-ghost use Rattle.integer.specs.Range.{pick};pick};
-ghost use Rattle.quotient.specs.Quotient.{no_quotient};no_quotient};
+ghost use Rattle.std.specs.Prelude.{◌≡◌};
+ghost use Rattle.std.specs.Int.Signed.{quot_z, rem_z};
+ghost use Rattle.std.specs.Int.{w32, w64};
+ghost use Rattle.integer.specs.Range.{pick};
+ghost use Rattle.quotient.specs.Quotient.{no_quotient};
 
 // A quotient or a remainder of AbstractInts, or that there is none.
 #[derive(Drop)]

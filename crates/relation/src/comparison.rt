@@ -1,10 +1,10 @@
 // `== != < <= > >=`, by their codes 8 to 13: one function for the six.
-ghost use Rattle.std.specs.Prelude.{◌≡◌};◌≡◌};
-ghost use Rattle.rounding.specs.Bits.{of_bits};of_bits};
-ghost use Rattle.rounding.specs.Kind.{half};half};
-ghost use Rattle.value.specs.Answer.{answer_of};answer_of};
-ghost use Rattle.relation.specs.Comparison.{compared, eq_of, ge_of, gt_of, le_of, lt_of, ne_of, numbers_of, reals_by, wholes_by};compared, eq_of, ge_of, gt_of, le_of, lt_of, ne_of, numbers_of, reals_by, wholes_by};
-ghost use Rattle.conversion.specs.Convert.{common_of};common_of};
+ghost use Rattle.std.specs.Prelude.{◌≡◌};
+ghost use Rattle.rounding.specs.Bits.{of_bits};
+ghost use Rattle.rounding.specs.Kind.{half};
+ghost use Rattle.value.specs.Answer.{answer_of};
+ghost use Rattle.relation.specs.Comparison.{compared, eq_of, ge_of, gt_of, le_of, lt_of, ne_of, numbers_of, reals_by, wholes_by};
+ghost use Rattle.conversion.specs.Convert.{common_of};
 
 use crate::Numbers;
 use conversion::common::common;

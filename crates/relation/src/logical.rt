@@ -1,8 +1,8 @@
 // `||` and `&&`, which work out both sides, and `!`.
-ghost use Rattle.std.specs.Prelude.{◌≡◌};◌≡◌};
-ghost use Rattle.value.specs.Answer.{answer_of};answer_of};
-ghost use Rattle.relation.specs.Logical.{and_of, not_of, or_of};and_of, not_of, or_of};
-ghost use Rattle.value.specs.Pair.{pair_of};pair_of};
+ghost use Rattle.std.specs.Prelude.{◌≡◌};
+ghost use Rattle.value.specs.Answer.{answer_of};
+ghost use Rattle.relation.specs.Logical.{and_of, not_of, or_of};
+ghost use Rattle.value.specs.Pair.{pair_of};
 
 use conversion::common::pair;
 use value::{Answer, Pair, Scalar};

@@ -1,9 +1,9 @@
 // To a kind. The digits and the reach are arguments, so that one text serves every kind.
-ghost use Rattle.std.specs.Prelude.{◌≡◌, ◌+◌, ◌-◌, ◌*◌, ◌^◌, ◌<◌, ◌≤◌, ◌≢◌};◌≡◌, ◌+◌, ◌-◌, ◌*◌, ◌^◌, ◌<◌, ◌≤◌, ◌≢◌};
+ghost use Rattle.std.specs.Prelude.{◌≡◌, ◌+◌, ◌-◌, ◌*◌, ◌^◌, ◌<◌, ◌≤◌, ◌≢◌};
 ghost use Rattle.std.specs.Float.Ieee as Ieee;
-ghost use Rattle.rounding.specs.Kind.{kind, half, single, double, least, round_to, convert, of_integer};kind, half, single, double, least, round_to, convert, of_integer};
-ghost use Rattle.rounding.specs.Bits.{full, hidden, signed, to_bits, of_bits};full, hidden, signed, to_bits, of_bits};
-ghost use Rattle.rounding.specs.Pack.{pack};pack};
+ghost use Rattle.rounding.specs.Kind.{kind, half, single, double, least, round_to, convert, of_integer};
+ghost use Rattle.rounding.specs.Bits.{full, hidden, signed, to_bits, of_bits};
+ghost use Rattle.rounding.specs.Pack.{pack};
 
 use crate::{patterns, places};
 

@@ -1,7 +1,7 @@
 // Bits and values of F32 and F64, and which values are finite.
-ghost use Rattle.std.specs.Prelude.{◌≡◌};◌≡◌};
-ghost use Rattle.rounding.specs.Kind.{half, single, double};half, single, double};
-ghost use Rattle.rounding.specs.Bits.{to_bits, of_bits, finite};to_bits, of_bits, finite};
+ghost use Rattle.std.specs.Prelude.{◌≡◌};
+ghost use Rattle.rounding.specs.Kind.{half, single, double};
+ghost use Rattle.rounding.specs.Bits.{to_bits, of_bits, finite};
 
 // The bits of x, a NaN as it is kept.
 pub fn f32_bits(x: f32) -> u32

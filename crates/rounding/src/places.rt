@@ -1,6 +1,6 @@
 // The core of every rounding here.
-ghost use Rattle.std.specs.Prelude.{◌≡◌, ◌^◌, ◌<◌, ◌≤◌};◌≡◌, ◌^◌, ◌<◌, ◌≤◌};
-ghost use Rattle.std.specs.Float.Ieee.Nearest.{closest};closest};
+ghost use Rattle.std.specs.Prelude.{◌≡◌, ◌^◌, ◌<◌, ◌≤◌};
+ghost use Rattle.std.specs.Float.Ieee.Nearest.{closest};
 
 // m over 2^places, to the nearest whole number, a tie to the even one. The kept bits, the half bit and the rest are taken in one
 // go: half of 2^places less one, and one more where the number kept is odd, carry over exactly where it goes up.

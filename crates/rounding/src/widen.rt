@@ -1,8 +1,8 @@
 // From F16 to F32, which holds every F16.
-ghost use Rattle.std.specs.Prelude.{◌≡◌, ◌*◌, ◌%◌, ◌<◌, ◌≤◌};◌≡◌, ◌*◌, ◌%◌, ◌<◌, ◌≤◌};
-ghost use Rattle.std.specs.Float.Ieee.{odd};odd};
-ghost use Rattle.rounding.specs.Kind.{half};half};
-ghost use Rattle.rounding.specs.Bits.{full, hidden, of_bits, signed};full, hidden, of_bits, signed};
+ghost use Rattle.std.specs.Prelude.{◌≡◌, ◌*◌, ◌%◌, ◌<◌, ◌≤◌};
+ghost use Rattle.std.specs.Float.Ieee.{odd};
+ghost use Rattle.rounding.specs.Kind.{half};
+ghost use Rattle.rounding.specs.Bits.{full, hidden, of_bits, signed};
 
 // m smallest values of F16, each 2^-24, negative where neg: exact in F32.
 fn small(neg: bool, m: u16) -> f32

@@ -1,9 +1,9 @@
 // Every operator by its code, on patterns: what the layer above calls.
 mod products;
 
-ghost use Rattle.std.specs.Prelude.{◌≡◌};◌≡◌};
-ghost use Rattle.value.specs.Answer.{answer_of, refusal, unary};answer_of, refusal, unary};
-ghost use Rattle.scalar.specs.Step.{binary_of, conv_of, on_scalar, product_added, shift_of, step_of, stepped, unary_of, unary_step_of};binary_of, conv_of, on_scalar, product_added, shift_of, step_of, stepped, unary_of, unary_step_of};
+ghost use Rattle.std.specs.Prelude.{◌≡◌};
+ghost use Rattle.value.specs.Answer.{answer_of, refusal, unary};
+ghost use Rattle.scalar.specs.Step.{binary_of, conv_of, on_scalar, product_added, shift_of, step_of, stepped, unary_of, unary_step_of};
 
 use bitwise::{bits, shifts};
 use conversion::convert;

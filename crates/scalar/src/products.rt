@@ -1,9 +1,9 @@
 // The product, with which a matrix product begins, and the sum with a product, which it does at each of its further steps.
-ghost use Rattle.std.specs.Prelude.{◌&&◌, not, ◌≡◌};◌&&◌, not, ◌≡◌};
-ghost use Rattle.value.specs.Answer.{refusal};refusal};
-ghost use Rattle.value.specs.Pattern.{pick};pick};
+ghost use Rattle.std.specs.Prelude.{◌&&◌, not, ◌≡◌};
+ghost use Rattle.value.specs.Answer.{refusal};
+ghost use Rattle.value.specs.Pattern.{pick};
 ghost use Rattle.value.specs.Refusals as No;
-ghost use Rattle.scalar.specs.Step.{step_of, product_added};step_of, product_added};
+ghost use Rattle.scalar.specs.Step.{step_of, product_added};
 
 use crate::{Step, binary_step, refuse};
 use rounding::{

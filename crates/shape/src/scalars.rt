@@ -1,10 +1,10 @@
 // An operator on scalars, which go by their types and patterns and without arrays: the checks of `unary` and `binary` in their order.
-ghost use Rattle.std.specs.Prelude.{◌≡◌, true};◌≡◌, true};
-ghost use Rattle.scalar.specs.Step.{refusal};refusal};
-ghost use Rattle.operand.specs.Operand.{operand_formed, a_scalar};operand_formed, a_scalar};
-ghost use Rattle.pairing.specs.Pairing.{targets_of};targets_of};
-ghost use Rattle.dispatch.specs.Meaning.{converted_to, judged, unary_meaning, binary_meaning};converted_to, judged, unary_meaning, binary_meaning};
-ghost use Rattle.shape.specs.Scalars.{step_answer, on_scalars};step_answer, on_scalars};
+ghost use Rattle.std.specs.Prelude.{◌≡◌, true};
+ghost use Rattle.scalar.specs.Step.{refusal};
+ghost use Rattle.operand.specs.Operand.{operand_formed, a_scalar};
+ghost use Rattle.pairing.specs.Pairing.{targets_of};
+ghost use Rattle.dispatch.specs.Meaning.{converted_to, judged, unary_meaning, binary_meaning};
+ghost use Rattle.shape.specs.Scalars.{step_answer, on_scalars};
 
 use operand::{Outcome, answered, refused_as, scalar};
 use pairing::{Targets, op_known, stage_known, targets_of, unary_known};

@@ -6,8 +6,8 @@ mod node; // node.rt: the nodes of a body, each reading its operands
 mod record; // record.rt: a record's head and body
 mod names; // names.rt: the entries that a body names
 
-ghost use Rattle.std.specs.Prelude.{◌≡◌};◌≡◌};
-ghost use Rattle.sheet.specs.Sheet.{read_sheet, counted_of};read_sheet, counted_of};
+ghost use Rattle.std.specs.Prelude.{◌≡◌};
+ghost use Rattle.sheet.specs.Sheet.{read_sheet, counted_of};
 
 pub use literals::literal_at;
 use low::Counted;

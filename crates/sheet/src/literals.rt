@@ -1,9 +1,9 @@
 // A literal node: type, columns, rows and components.
-ghost use Rattle.std.specs.Prelude.{◌≡◌, false, ◌++◌, ◌+◌, ◌*◌, ◌-◌, ◌<◌, ◌≤◌, length, replicate};◌≡◌, false, ◌++◌, ◌+◌, ◌*◌, ◌-◌, ◌<◌, ◌≤◌, length, replicate};
-ghost use Rattle.low.specs.Read.{seen_of};seen_of};
-ghost use Rattle.types.specs.Edition.{plain};plain};
-ghost use Rattle.sheet.specs.Node.{literal_head, all_proper, components, literal_ok, read_literal, literal_in};literal_head, all_proper, components, literal_ok, read_literal, literal_in};
-ghost use Rattle.sheet.specs.Accepted.{LiteralAt};LiteralAt};
+ghost use Rattle.std.specs.Prelude.{◌≡◌, false, ◌++◌, ◌+◌, ◌*◌, ◌-◌, ◌<◌, ◌≤◌, length, replicate};
+ghost use Rattle.low.specs.Read.{seen_of};
+ghost use Rattle.types.specs.Edition.{plain};
+ghost use Rattle.sheet.specs.Node.{literal_head, all_proper, components, literal_ok, read_literal, literal_in};
+ghost use Rattle.sheet.specs.Accepted.{LiteralAt};
 
 use crate::Literal;
 use low::{Seen, get64, remaining};

@@ -1,9 +1,9 @@
 // Which entries a body names, by its bytes: one pass over its nodes, which stand in prefix order.
-ghost use Rattle.std.specs.Prelude.{◌≡◌, false, ◌+◌, ◌<◌, ◌≤◌, eqb, length, get_or};◌≡◌, false, ◌+◌, ◌<◌, ◌≤◌, eqb, length, get_or};
-ghost use Rattle.types.specs.Edition.{plain};plain};
-ghost use Rattle.value.specs.Pattern.{pick};pick};
-ghost use Rattle.sheet.specs.Node.{literal_end};literal_end};
-ghost use Rattle.sheet.specs.Accepted.{Bodied, NamesMarked, Filled, TreeMarked};Bodied, NamesMarked, Filled, TreeMarked};
+ghost use Rattle.std.specs.Prelude.{◌≡◌, false, ◌+◌, ◌<◌, ◌≤◌, eqb, length, get_or};
+ghost use Rattle.types.specs.Edition.{plain};
+ghost use Rattle.value.specs.Pattern.{pick};
+ghost use Rattle.sheet.specs.Node.{literal_end};
+ghost use Rattle.sheet.specs.Accepted.{Bodied, NamesMarked, Filled, TreeMarked};
 
 use crate::Kind;
 use crate::literals::area;

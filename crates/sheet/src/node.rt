@@ -1,8 +1,8 @@
 // The nodes of a body: a node reads its operands, and they read their nodes.
-ghost use Rattle.std.specs.Prelude.{◌≡◌};◌≡◌};
-ghost use Rattle.low.specs.Read.{seen_of};seen_of};
-ghost use Rattle.types.specs.Edition.{plain};plain};
-ghost use Rattle.sheet.specs.Node.{operator_known, read_reference, read_operator, read_node};operator_known, read_reference, read_operator, read_node};
+ghost use Rattle.std.specs.Prelude.{◌≡◌};
+ghost use Rattle.low.specs.Read.{seen_of};
+ghost use Rattle.types.specs.Edition.{plain};
+ghost use Rattle.sheet.specs.Node.{operator_known, read_reference, read_operator, read_node};
 
 use crate::literals::read_literal;
 use low::{Seen, remaining};

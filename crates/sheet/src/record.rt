@@ -1,10 +1,10 @@
 // A record: its head, its body as a part of the sheet, and what is judged of both.
-ghost use Rattle.std.specs.Prelude.{◌≡◌, ◌+◌, ◌<◌, ◌≤◌, length};◌≡◌, ◌+◌, ◌<◌, ◌≤◌, length};
-ghost use Rattle.low.specs.Part.{PartOf};PartOf};
-ghost use Rattle.low.specs.Read.{seen_of};seen_of};
-ghost use Rattle.types.specs.Edition.{plain};plain};
-ghost use Rattle.sheet.specs.Stage.{kind_of};kind_of};
-ghost use Rattle.sheet.specs.Record.{body_len, read_head, read_setting, read_kind, read_body, read_record, passed_of};body_len, read_head, read_setting, read_kind, read_body, read_record, passed_of};
+ghost use Rattle.std.specs.Prelude.{◌≡◌, ◌+◌, ◌<◌, ◌≤◌, length};
+ghost use Rattle.low.specs.Part.{PartOf};
+ghost use Rattle.low.specs.Read.{seen_of};
+ghost use Rattle.types.specs.Edition.{plain};
+ghost use Rattle.sheet.specs.Stage.{kind_of};
+ghost use Rattle.sheet.specs.Record.{body_len, read_head, read_setting, read_kind, read_body, read_record, passed_of};
 
 use crate::literals::read_literal;
 use crate::node::read_node;

@@ -1,6 +1,6 @@
 // What a stage byte means.
-ghost use Rattle.std.specs.Prelude.{◌≡◌};◌≡◌};
-ghost use Rattle.sheet.specs.Stage.{stage_known, kind_of, counts_as};stage_known, kind_of, counts_as};
+ghost use Rattle.std.specs.Prelude.{◌≡◌};
+ghost use Rattle.sheet.specs.Stage.{stage_known, kind_of, counts_as};
 
 use crate::Kind;
 

@@ -1,10 +1,10 @@
 // Shifts: to the left exactly, or wrapping around; to the right, rounded down.
-ghost use Rattle.std.specs.Prelude.{◌≡◌, ◌*◌, ◌^◌, pos, ◌*ℤ◌};◌≡◌, ◌*◌, ◌^◌, pos, ◌*ℤ◌};
-ghost use Rattle.std.specs.Int.Signed.{mag, shr_z};mag, shr_z};
-ghost use Rattle.std.specs.Int.{w32, w64};w32, w64};
-ghost use Rattle.integer.specs.Wrap.{wrap_s};wrap_s};
-ghost use Rattle.integer.specs.Range.{pick, whole_of};pick, whole_of};
-ghost use Rattle.shift.specs.Shift.{shl_over, shl_over_u, shl_wrapping, shl_wrapping_u, shr_modulo, shr_modulo_u};shl_over, shl_over_u, shl_wrapping, shl_wrapping_u, shr_modulo, shr_modulo_u};
+ghost use Rattle.std.specs.Prelude.{◌≡◌, ◌*◌, ◌^◌, pos, ◌*ℤ◌};
+ghost use Rattle.std.specs.Int.Signed.{mag, shr_z};
+ghost use Rattle.std.specs.Int.{w32, w64};
+ghost use Rattle.integer.specs.Wrap.{wrap_s};
+ghost use Rattle.integer.specs.Range.{pick, whole_of};
+ghost use Rattle.shift.specs.Shift.{shl_over, shl_over_u, shl_wrapping, shl_wrapping_u, shr_modulo, shr_modulo_u};
 
 use integer::Whole;
 

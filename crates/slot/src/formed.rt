@@ -1,7 +1,7 @@
 // Which slots are well formed.
-ghost use Rattle.std.specs.Prelude.{◌≡◌, ◌*◌, ◌<◌};◌≡◌, ◌*◌, ◌<◌};
-ghost use Rattle.types.specs.Edition.{plain};plain};
-ghost use Rattle.slot.specs.Slot.{component_formed, components_formed, value_formed, blank, integer_formed, beside_formed, detail_formed, formed};component_formed, components_formed, value_formed, blank, integer_formed, beside_formed, detail_formed, formed};
+ghost use Rattle.std.specs.Prelude.{◌≡◌, ◌*◌, ◌<◌};
+ghost use Rattle.types.specs.Edition.{plain};
+ghost use Rattle.slot.specs.Slot.{component_formed, components_formed, value_formed, blank, integer_formed, beside_formed, detail_formed, formed};
 
 use operand::{Instance, Outcome};
 

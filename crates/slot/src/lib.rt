@@ -1,9 +1,9 @@
 // Results: a value or a refusal in 136 lent bytes an entry.
 mod formed;
 
-ghost use Rattle.std.specs.Prelude.{◌≡◌, length};◌≡◌, length};
-ghost use Rattle.types.specs.Edition.{plain};plain};
-ghost use Rattle.slot.specs.Slot.{bytes_of, said_by, slot, put, well_formed, reference_to};bytes_of, said_by, slot, put, well_formed, reference_to};
+ghost use Rattle.std.specs.Prelude.{◌≡◌, length};
+ghost use Rattle.types.specs.Edition.{plain};
+ghost use Rattle.slot.specs.Slot.{bytes_of, said_by, slot, put, well_formed, reference_to};
 
 use operand::Outcome;
 use value::refusals;

@@ -3,9 +3,9 @@ mod lines;
 mod movers;
 mod put;
 
-ghost use Rattle.std.specs.Prelude.{◌≤◌};◌≤◌};
-ghost use Rattle.io.specs.Counts.{IsPrefixLen};IsPrefixLen};
-ghost use Rattle.text.specs.Text.{Put, listing, refusal_line, moved_line};Put, listing, refusal_line, moved_line};
+ghost use Rattle.std.specs.Prelude.{◌≤◌};
+ghost use Rattle.io.specs.Counts.{IsPrefixLen};
+ghost use Rattle.text.specs.Text.{Put, listing, refusal_line, moved_line};
 
 // The listing of a results buffer. Says its length.
 pub fn list(out: &mut [u8; 65536], results: &[u8]) -> usize

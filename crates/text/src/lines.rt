@@ -1,6 +1,6 @@
 // The lines of a listing.
-ghost use Rattle.std.specs.Prelude.{◌≡◌, ◌+◌, ◌*◌, ◌/◌, ◌≤◌, min, length};◌≡◌, ◌+◌, ◌*◌, ◌/◌, ◌≤◌, min, length};
-ghost use Rattle.text.specs.Text.{Put, shown, line, lines, entries};Put, shown, line, lines, entries};
+ghost use Rattle.std.specs.Prelude.{◌≡◌, ◌+◌, ◌*◌, ◌/◌, ◌≤◌, min, length};
+ghost use Rattle.text.specs.Text.{Put, shown, line, lines, entries};
 
 use crate::put;
 use operand::Outcome;

@@ -1,6 +1,6 @@
 // The entries that a change moved.
-ghost use Rattle.std.specs.Prelude.{◌+◌, ◌≤◌, ◌<◌, length};◌+◌, ◌≤◌, ◌<◌, length};
-ghost use Rattle.text.specs.Text.{Put, fields, mover, movers};Put, fields, mover, movers};
+ghost use Rattle.std.specs.Prelude.{◌+◌, ◌≤◌, ◌<◌, length};
+ghost use Rattle.text.specs.Text.{Put, fields, mover, movers};
 
 use crate::put;
 

@@ -1,6 +1,6 @@
 // Pieces of text at a place of a buffer. Each says the place after it.
-ghost use Rattle.std.specs.Prelude.{◌∷◌, ◌++◌, ◌+◌, ◌*◌, ◌≤◌, length, take};◌∷◌, ◌++◌, ◌+◌, ◌*◌, ◌≤◌, length, take};
-ghost use Rattle.text.specs.Text.{Put, dec, digits_of, spaced, words};Put, dec, digits_of, spaced, words};
+ghost use Rattle.std.specs.Prelude.{◌∷◌, ◌++◌, ◌+◌, ◌*◌, ◌≤◌, length, take};
+ghost use Rattle.text.specs.Text.{Put, dec, digits_of, spaced, words};
 
 // The bytes of s.
 pub(crate) fn text(out: &mut [u8], at: usize, s: &[u8]) -> usize

@@ -1,6 +1,6 @@
 // The types as data: a row for each code, and every question on a type answered from its row.
-ghost use Rattle.std.specs.Prelude.{◌≡◌};◌≡◌};
-ghost use Rattle.types.specs.Types.{class_of, common_type, concrete_of, float_of, goes_to, integer_of, known_of, most_of, result_type, right_of, row_of, unary_right_of, width_of};class_of, common_type, concrete_of, float_of, goes_to, integer_of, known_of, most_of, result_type, right_of, row_of, unary_right_of, width_of};
+ghost use Rattle.std.specs.Prelude.{◌≡◌};
+ghost use Rattle.types.specs.Types.{class_of, common_type, concrete_of, float_of, goes_to, integer_of, known_of, most_of, result_type, right_of, row_of, unary_right_of, width_of};
 
 // How many types there are: their codes are the numbers below.
 const TYPES: u8 = 7;

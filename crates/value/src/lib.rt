@@ -3,10 +3,10 @@ pub mod pattern;
 pub mod refusals;
 pub mod said;
 
-ghost use Rattle.std.specs.Prelude.{◌≡◌};◌≡◌};
-ghost use Rattle.value.specs.Answer.{carries, strict, stage_of};carries, strict, stage_of};
-ghost use Rattle.value.specs.Scalar.{finite_of, type_of};finite_of, type_of};
-ghost use Rattle.value.specs.Pattern.{kept_of, proper_of};kept_of, proper_of};
+ghost use Rattle.std.specs.Prelude.{◌≡◌};
+ghost use Rattle.value.specs.Answer.{carries, strict, stage_of};
+ghost use Rattle.value.specs.Scalar.{finite_of, type_of};
+ghost use Rattle.value.specs.Pattern.{kept_of, proper_of};
 
 // A value with its type; an F16 is its bits.
 #[derive(Drop)]

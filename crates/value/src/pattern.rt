@@ -1,8 +1,8 @@
 // The bits of a scalar, and the scalar of a type and bits, or two of them.
-ghost use Rattle.std.specs.Prelude.{◌≡◌};◌≡◌};
-ghost use Rattle.value.specs.Pair.{both_of};both_of};
-ghost use Rattle.value.specs.Pattern.{kept_of, Narrow};kept_of, Narrow};
-ghost use Rattle.value.specs.Scalar.{bits_of, kept_scalar, scalar_at, scalar_of};bits_of, kept_scalar, scalar_at, scalar_of};
+ghost use Rattle.std.specs.Prelude.{◌≡◌};
+ghost use Rattle.value.specs.Pair.{both_of};
+ghost use Rattle.value.specs.Pattern.{kept_of, Narrow};
+ghost use Rattle.value.specs.Scalar.{bits_of, kept_scalar, scalar_at, scalar_of};
 
 use crate::{Found, Pair, Scalar};
 use integer::patterns;

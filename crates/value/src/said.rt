@@ -1,6 +1,6 @@
 // What an answer says by codes: the number of its refusal, the detail, and the scalar that it has or carries.
-ghost use Rattle.std.specs.Prelude.{◌≡◌};◌≡◌};
-ghost use Rattle.value.specs.Answer.{answer_of, detail_of, number_of, scalar_in};answer_of, detail_of, number_of, scalar_in};
+ghost use Rattle.std.specs.Prelude.{◌≡◌};
+ghost use Rattle.value.specs.Answer.{answer_of, detail_of, number_of, scalar_in};
 
 use crate::{Answer, Scalar, refusals};
 

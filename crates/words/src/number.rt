@@ -1,6 +1,6 @@
 // The number that a word spells.
-ghost use Rattle.std.specs.Prelude.{◌≡◌, ◌≤◌};◌≡◌, ◌≤◌};
-ghost use Rattle.words.specs.Spelling.{low_digit, letter_digit, digit_of, spelled};low_digit, letter_digit, digit_of, spelled};
+ghost use Rattle.std.specs.Prelude.{◌≡◌, ◌≤◌};
+ghost use Rattle.words.specs.Spelling.{low_digit, letter_digit, digit_of, spelled};
 
 #[derive(Drop)]
 pub enum Spelled {

@@ -1,6 +1,6 @@
 // The words of a line, each ended by a byte 0.
-ghost use Rattle.std.specs.Prelude.{◌≡◌, ◌+◌, ◌≤◌, cond, eqb, length, drop};◌≡◌, ◌+◌, ◌≤◌, cond, eqb, length, drop};
-ghost use Rattle.words.specs.Split.{before, next_place, WordOf, word_count};before, next_place, WordOf, word_count};
+ghost use Rattle.std.specs.Prelude.{◌≡◌, ◌+◌, ◌≤◌, cond, eqb, length, drop};
+ghost use Rattle.words.specs.Split.{before, next_place, WordOf, word_count};
 
 // Where the part ends that starts at a place: at the first byte from there on that is `end`, or behind the last.
 pub fn end_of(s: &[u8], from: usize, end: u8) -> usize

@@ -1,14 +1,14 @@
 // What an accepted body means over the slots, as a whole and node by node: a node's walk and the walk of its operands call one another.
-ghost use Rattle.std.specs.Prelude.{◌≡◌, false, ◌+◌, ◌<◌, eqb, length, get_or};◌≡◌, false, ◌+◌, ◌<◌, eqb, length, get_or};
-ghost use Rattle.types.specs.Edition.{plain};plain};
-ghost use Rattle.value.specs.Pattern.{pick};pick};
-ghost use Rattle.operand.specs.Outcome.{value_of};value_of};
-ghost use Rattle.slot.specs.Slot.{reference_to};reference_to};
-ghost use Rattle.sheet.specs.Node.{read_literal, literal_in};read_literal, literal_in};
-ghost use Rattle.sheet.specs.Accepted.{NodeAt, LiteralAt, Bodied};NodeAt, LiteralAt, Bodied};
-ghost use Rattle.work.specs.declared.Operand.TheVariants.{Value, Ends};Value, Ends};
-ghost use Rattle.work.specs.Meaning.{on_one, on_two};on_one, on_two};
-ghost use Rattle.work.specs.Inside.{NodeMeans, BodyMeans, tag_byte};NodeMeans, BodyMeans, tag_byte};
+ghost use Rattle.std.specs.Prelude.{◌≡◌, false, ◌+◌, ◌<◌, eqb, length, get_or};
+ghost use Rattle.types.specs.Edition.{plain};
+ghost use Rattle.value.specs.Pattern.{pick};
+ghost use Rattle.operand.specs.Outcome.{value_of};
+ghost use Rattle.slot.specs.Slot.{reference_to};
+ghost use Rattle.sheet.specs.Node.{read_literal, literal_in};
+ghost use Rattle.sheet.specs.Accepted.{NodeAt, LiteralAt, Bodied};
+ghost use Rattle.work.specs.declared.Operand.TheVariants.{Value, Ends};
+ghost use Rattle.work.specs.Meaning.{on_one, on_two};
+ghost use Rattle.work.specs.Inside.{NodeMeans, BodyMeans, tag_byte};
 
 use operand::Outcome;
 use sheet::Kind;
