@@ -1,4 +1,6 @@
 // `+ - * / %`, by their codes 3 to 7, and negation.
+#![tactic(auto)]
+
 ghost use Rattle.std.specs.Prelude.{◌≡◌};
 ghost use Rattle.std.specs.Float.Ieee.{neg};
 ghost use Rattle.rounding.specs.Kind.{double, half, single};

@@ -5,7 +5,7 @@ ghost use Rattle.asked.specs.Asked.{asked_at, asked_from, first_bad};
 use words::Spelled;
 
 // An entry, the code of a type and 8 bytes of content; or the number of the first word that is none.
-#[derive(Drop)]
+#[derive(Clone, Copy)]
 pub enum Asked {
     Change(u64, u8, u64),
     Bad(usize),

@@ -1,4 +1,6 @@
 // The words of the command `listing [-v] SHEET [ENTRY TYPE BITS]...`, each ended by a byte 0: the sheet's name, and the changes that are asked for.
+#![tactic(auto)]
+
 mod asked;
 mod sheet;
 

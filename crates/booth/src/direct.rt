@@ -8,7 +8,7 @@ use operand::{Instance, Outcome};
 use value::refusals;
 
 // A scalar by its type and pattern, or other bytes.
-#[derive(Drop)]
+#[derive(Clone, Copy)]
 pub(crate) enum One {
     Scalar(u8, u64),
     Other,

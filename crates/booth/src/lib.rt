@@ -1,5 +1,7 @@
 // What C calls. A slice is a pointer and a length. An answer is a number in bits 32 to 39 and its detail in bits 0 to 31; the number 0
 // is success. No function that C calls has a `requires`.
+#![tactic(auto)]
+
 mod direct;
 mod marks; // marks.rt: the marks of a change
 

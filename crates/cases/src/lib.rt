@@ -1,4 +1,6 @@
 // Records of the lists of fixed answers on values: whether what they ask is answered as they say.
+#![tactic(auto)]
+
 pub mod operators;
 mod record;
 pub mod roundings;

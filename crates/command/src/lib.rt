@@ -1,5 +1,7 @@
 // The command `listing [-v] SHEET [ENTRY TYPE BITS]...`, given its words, each ended by a byte 0: one function makes the whole text from the words
 // and the file's bytes, and around it the file is read and the text is written.
+#![tactic(auto)]
+
 mod pages;
 mod show;
 mod whole;
@@ -12,7 +14,7 @@ ghost use Rattle.command.specs.Listing.{listing_of, printed};
 use libc::STDOUT_FILENO;
 
 // How many bytes of a file were read, and whether reading went well.
-#[derive(Drop)]
+#[derive(Clone, Copy)]
 struct Read {
     n: usize,
     whole: bool,

@@ -1,4 +1,6 @@
 // Work component by component, from 0 up, until one refuses.
+#![tactic(auto)]
+
 ghost use Rattle.std.specs.Prelude.{◌≡◌, ◌+◌, ◌*◌, ◌≤◌, ◌<◌};
 ghost use Rattle.components.specs.Components.{got, run_result, each_component, ended_by, lane, binary_at, unary_at, converted_at, Inside};
 
@@ -6,7 +8,7 @@ use scalar::{Conv, Step};
 use value::Refusal;
 
 // The components of an operation, or the refusal that stopped it.
-#[derive(Drop)]
+#[derive(Clone, Copy)]
 pub struct Run {
     pub comps: [u64; 16],
     pub refusal: Refusal,

@@ -1,4 +1,6 @@
 // An operator on operands of any shape: shape pair, common type, conversions, equal shape, the type's right, components.
+#![tactic(auto)]
+
 ghost use Rattle.std.specs.Prelude.{◌≡◌, true};
 ghost use Rattle.value.specs.Pattern.{pick};
 ghost use Rattle.operand.specs.Operand.{in_shape, Small, operand_formed};

@@ -1,4 +1,6 @@
 // The entries of an accepted sheet by their numbers: where their records lie, which are settings, and which depend on which.
+#![tactic(auto)]
+
 mod depend; // depend.rt: the dependents of an entry, by one pass
 mod spans; // spans.rt: the record at a place
 
@@ -6,7 +8,7 @@ pub use depend::dependents;
 pub use spans::{begin, place_after, setting_at, span_at};
 
 // A record's stage byte, where its body starts and how long it is, and the place after the record.
-#[derive(Drop)]
+#[derive(Clone, Copy)]
 pub struct Span {
     pub stage: u8,
     pub start: usize,
@@ -15,14 +17,14 @@ pub struct Span {
 }
 
 // Whether a record is a setting's, and of which type.
-#[derive(Drop)]
+#[derive(Clone, Copy)]
 pub enum Setting {
     Of(u8),
     None,
 }
 
 // An entry's turn: the place after its record, and 1 if it is a dependent.
-#[derive(Drop)]
+#[derive(Clone, Copy)]
 pub struct Advance {
     pub next: usize,
     pub count: usize,

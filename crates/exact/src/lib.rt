@@ -1,4 +1,6 @@
 // Exact sums, differences and products of 64 bits, with an own test of overflow.
+#![tactic(auto)]
+
 ghost use Rattle.std.specs.Prelude.{◌≡◌, cond, not, ◌*◌, pos, neg_ℤ, ◌+ℤ◌, ◌-ℤ◌, ◌*ℤ◌};
 ghost use Rattle.std.specs.Int.{w64};
 ghost use Rattle.integer.specs.Range.{whole_of, in_signed, in_unsigned};

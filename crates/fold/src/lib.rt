@@ -1,4 +1,6 @@
 // A sheet's results: fresh evaluation, and the change of one setting.
+#![tactic(auto)]
+
 mod marked; // marked.rt: the marked entries of an accepted sheet, worked in rising order
 mod turns; // turns.rt: the checks of a change, and the change
 

@@ -1,4 +1,6 @@
 // Lists a sheet of constants and changes its settings: `listing [-v] SHEET [ENTRY TYPE BITS]...`.
+#![tactic(auto)]
+
 ghost use Rattle.std.specs.Prelude.{◌≤◌, length};
 
 // The program's words at the start of a line, each ended by a byte 0. Says how many bytes they take; words that do not fit take the whole line.

@@ -1,5 +1,7 @@
 // Runs the command `listing` on each line of standard input, with a space between two words, and prints the line before what the
 // command prints.
+#![tactic(auto)]
+
 ghost use Rattle.std.specs.Prelude.{◌≤◌, length};
 
 use libc::{STDIN_FILENO, STDOUT_FILENO};

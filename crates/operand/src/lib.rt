@@ -1,4 +1,6 @@
 // Scalars, vectors and matrices as one flat record: which of them are well formed, and what an operator answers.
+#![tactic(auto)]
+
 ghost use Rattle.std.specs.Prelude.{◌≡◌, ◌≤◌};
 ghost use Rattle.value.specs.Pattern.{proper_of};
 ghost use Rattle.operand.specs.Operand.{shape_ok, in_shape, is_scalar, is_vector, is_matrix, component_count, Small, every, component_at, operand_formed, a_scalar};
@@ -9,7 +11,7 @@ use value::Refusal;
 
 // A scalar, vector or matrix: its components, column by column, and its type, columns and rows. The components stand first, at
 // an even place, where a copy of them is cheapest.
-#[derive(Drop)]
+#[derive(Clone, Copy)]
 pub struct Instance {
     pub comps: [u64; 16],
     pub ty: u8,
@@ -18,7 +20,7 @@ pub struct Instance {
 }
 
 // An answer: status 0 and a value, or a refusal's number and detail beside zeros; a shift's refusal beside its left operand.
-#[derive(Drop)]
+#[derive(Clone, Copy)]
 pub struct Outcome {
     pub value: Instance,
     pub detail: u32,
@@ -26,7 +28,7 @@ pub struct Outcome {
 }
 
 // Columns and rows of an operand.
-#[derive(Drop)]
+#[derive(Clone, Copy)]
 pub struct Shape {
     pub cols: u8,
     pub rows: u8,

@@ -1,4 +1,6 @@
 // The operators under the Rust's names, on scalars, vectors and matrices. One whose answer depends on no stage takes none.
+#![tactic(auto)]
+
 ghost use Rattle.std.specs.Prelude.{◌≡◌};
 ghost use Rattle.pairing.specs.Pairing.{stage_code};
 ghost use Rattle.dispatch.specs.Meaning.{unary_meaning, binary_meaning};

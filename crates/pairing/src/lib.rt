@@ -1,4 +1,6 @@
 // Which codes name an operator or a stage, and which shapes and types an operator takes.
+#![tactic(auto)]
+
 ghost use Rattle.std.specs.Prelude.{◌≡◌};
 ghost use Rattle.pairing.specs.Pairing.{op_known, unary_known, stage_code, stage_known, call_fault, pair_ok, targets_of, is_product, inner_ok, same_shape, fits_of, misfit_of, result_shape};
 
@@ -7,7 +9,7 @@ use types::CommonType;
 use value::{ShaderStage, refusals};
 
 // The types that the operands convert to.
-#[derive(Drop)]
+#[derive(Clone, Copy)]
 pub enum Targets {
     Types(u8, u8),
     Nothing,

@@ -1,4 +1,6 @@
 // Sums of products: p0, p1, p0 + p1, p2 and so on, each step rounded and checked.
+#![tactic(auto)]
+
 ghost use Rattle.std.specs.Prelude.{◌≡◌, ◌-◌, ◌*◌, ◌≤◌, ◌<◌};
 ghost use Rattle.components.specs.Components.{run_result, step_result, each_component, lane, Inside};
 ghost use Rattle.products.specs.Products.{plus_next, plus_all, dot_of, cell_at, times_row, vector_matrix};

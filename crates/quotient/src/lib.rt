@@ -1,5 +1,7 @@
 // Signed quotients that truncate and remainders that take the left sign, where there are any: there is none for a zero divisor and
 // for the minimum by -1.
+#![tactic(auto)]
+
 ghost use Rattle.std.specs.Prelude.{◌≡◌};
 ghost use Rattle.std.specs.Int.Signed.{quot_z, rem_z};
 ghost use Rattle.std.specs.Int.{w32, w64};
@@ -7,14 +9,14 @@ ghost use Rattle.integer.specs.Range.{pick};
 ghost use Rattle.quotient.specs.Quotient.{no_quotient};
 
 // A quotient or a remainder of AbstractInts, or that there is none.
-#[derive(Drop)]
+#[derive(Clone, Copy)]
 pub enum WholeQuotient {
     Value(i64),
     Undefined,
 }
 
 // The same of I32s.
-#[derive(Drop)]
+#[derive(Clone, Copy)]
 pub enum SignedQuotient {
     Value(i32),
     Undefined,

@@ -1,9 +1,11 @@
 // Comparisons, and the operators on truths.
+#![tactic(auto)]
+
 pub mod comparison;
 pub mod logical;
 
 // Two operands of one type as the numbers that they are.
-#[derive(Drop)]
+#[derive(Clone, Copy)]
 pub(crate) enum Numbers {
     Truths(bool, bool),
     Wholes(i64, i64),

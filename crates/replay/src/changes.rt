@@ -3,7 +3,7 @@ use cases::answers;
 use std::num::wrapping_add_usize;
 
 // Where the next change stands in a record, where the bytes stand that the buffer must hold, and whether all was right so far.
-#[derive(Drop)]
+#[derive(Clone, Copy)]
 struct Place {
     right: bool,
     at: usize,

@@ -1,12 +1,14 @@
 // Replays the lists of fixed answers that its arguments name: through the C functions, and through the layers' own calls where C has no
 // form for what they take. Prints for each list its name, how many cases there are and how many are right.
+#![tactic(auto)]
+
 mod changes;
 mod sheets;
 
 use libc::STDOUT_FILENO;
 
 // What the records of a list ask.
-#[derive(Drop)]
+#[derive(Clone, Copy)]
 enum Kind {
     Rounding,
     Scalars,
@@ -17,7 +19,7 @@ enum Kind {
 }
 
 // The cases so far, those of them that were right, and whether the list goes on.
-#[derive(Drop)]
+#[derive(Clone, Copy)]
 struct Tally {
     cases: u64,
     right: u64,

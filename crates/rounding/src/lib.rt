@@ -4,6 +4,8 @@
 //
 // An F16 is its bits, in a u16. A NaN is kept as one pattern of each kind: 7E00, 7FC00000 and
 // 7FF8000000000000.
+#![tactic(auto)]
+
 mod narrow; // to a kind: f64, f32 and i64 to F16, f32 and f64
 mod patterns; // bits and values, and which values are finite
 mod places; // the core: a whole number rounded by a number of places

@@ -1,4 +1,6 @@
 // Every operator by its code, on patterns: what the layer above calls.
+#![tactic(auto)]
+
 mod products;
 
 ghost use Rattle.std.specs.Prelude.{◌≡◌};
@@ -11,14 +13,14 @@ use relation::{comparison, logical};
 use value::{Answer, Found, Pair, Refusal, ShaderStage, pattern, said, stage_of};
 
 // One operation: the result's type and bits, or a refusal.
-#[derive(Drop)]
+#[derive(Clone, Copy)]
 pub enum Step {
     Bits(u8, u64),
     Refused(Refusal),
 }
 
 // One conversion: the bits, if it has any.
-#[derive(Drop)]
+#[derive(Clone, Copy)]
 pub enum Conv {
     Bits(u64),
     Nothing,

@@ -1,6 +1,8 @@
 // The operators by their codes, on scalars, vectors and matrices. A scalar's own operations are those of the crate `scalar`, known here
 // by their contracts alone.
 //   scalars.rt     an operator on scalars, without arrays
+#![tactic(auto)]
+
 ghost use Rattle.std.specs.Prelude.{◌≡◌};
 ghost use Rattle.operand.specs.Operand.{a_scalar};
 ghost use Rattle.dispatch.specs.Meaning.{unary_meaning, binary_meaning};

@@ -1,5 +1,7 @@
 // A sheet of constants as bytes: its records and nodes, every check of them with its number and byte place, and which
 // entries an entry names.
+#![tactic(auto)]
+
 mod stage; // stage.rt: what a stage byte means
 mod literals; // literals.rt: a literal node and its value
 mod node; // node.rt: the nodes of a body, each reading its operands
@@ -19,28 +21,28 @@ pub use stage::kind_of;
 use value::refusals;
 
 // What an entry is: a setting, or an expression.
-#[derive(Drop)]
+#[derive(Clone, Copy)]
 pub enum Kind {
     Setting,
     Expression,
 }
 
 // What a record's first five bytes answer: its stage byte and where its body is, or a refusal's number and its place.
-#[derive(Drop)]
+#[derive(Clone, Copy)]
 pub enum Head {
     Record { stage: u8, start: usize, len: usize },
     Refused(u8, usize),
 }
 
 // What reading a record answers: the stage that it counts as and the place after it, or a refusal's number and its place.
-#[derive(Drop)]
+#[derive(Clone, Copy)]
 pub enum Passed {
     Entry(u8, usize),
     Refused(u8, usize),
 }
 
 // A literal's value and the place after it.
-#[derive(Drop)]
+#[derive(Clone, Copy)]
 pub struct Literal {
     pub value: Instance,
     pub next: usize,

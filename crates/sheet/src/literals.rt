@@ -11,7 +11,7 @@ use operand::Instance;
 use value::refusals;
 
 // The three bytes after a literal's tag: its type, columns and rows.
-#[derive(Drop)]
+#[derive(Clone, Copy)]
 pub(crate) struct LiteralHead {
     ty: u8,
     cols: u8,

@@ -1,4 +1,6 @@
 // Shifts: to the left exactly, or wrapping around; to the right, rounded down.
+#![tactic(auto)]
+
 ghost use Rattle.std.specs.Prelude.{◌≡◌, ◌*◌, ◌^◌, pos, ◌*ℤ◌};
 ghost use Rattle.std.specs.Int.Signed.{mag, shr_z};
 ghost use Rattle.std.specs.Int.{w32, w64};
@@ -14,14 +16,14 @@ const WIDTH: u32 = 32;
 const WIDE: u32 = 64;
 
 // An exact result, or that it is outside the 32-bit signed range.
-#[derive(Drop)]
+#[derive(Clone, Copy)]
 pub enum Signed {
     Value(i32),
     Over,
 }
 
 // An exact result, or that it is outside the 32-bit unsigned range.
-#[derive(Drop)]
+#[derive(Clone, Copy)]
 pub enum Unsigned {
     Value(u32),
     Over,

@@ -1,4 +1,6 @@
 // Results: a value or a refusal in 136 lent bytes an entry.
+#![tactic(auto)]
+
 mod formed;
 
 ghost use Rattle.std.specs.Prelude.{◌≡◌, length};

@@ -1,4 +1,6 @@
 // The text of a listing, at the start of a lent buffer that holds the longest one.
+#![tactic(auto)]
+
 mod lines;
 mod movers;
 mod put;

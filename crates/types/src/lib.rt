@@ -1,4 +1,6 @@
 // The types as data: a row for each code, and every question on a type answered from its row.
+#![tactic(auto)]
+
 ghost use Rattle.std.specs.Prelude.{◌≡◌};
 ghost use Rattle.types.specs.Types.{class_of, common_type, concrete_of, float_of, goes_to, integer_of, known_of, most_of, result_type, right_of, row_of, unary_right_of, width_of};
 
@@ -15,7 +17,7 @@ const UNSIGNED: u8 = 3;
 const FLOAT: u8 = 4;
 
 // What is known of a type: its class, the bits of its patterns, the largest pattern, and whether it is concrete.
-#[derive(Drop)]
+#[derive(Clone, Copy)]
 pub struct Row {
     pub class: u8,
     pub width: u8,
@@ -24,7 +26,7 @@ pub struct Row {
 }
 
 // The code of a common type, where there is one.
-#[derive(Drop)]
+#[derive(Clone, Copy)]
 pub enum CommonType {
     Code(u8),
     Nothing,

@@ -1,4 +1,6 @@
 // One value of seven types, its pattern, and what an operator answers.
+#![tactic(auto)]
+
 pub mod pattern;
 pub mod refusals;
 pub mod said;
@@ -9,7 +11,7 @@ ghost use Rattle.value.specs.Scalar.{finite_of, type_of};
 ghost use Rattle.value.specs.Pattern.{kept_of, proper_of};
 
 // A value with its type; an F16 is its bits.
-#[derive(Drop)]
+#[derive(Clone, Copy)]
 pub enum Scalar {
     Bool(bool),
     AbstractInt(i64),
@@ -21,7 +23,7 @@ pub enum Scalar {
 }
 
 // When an expression is worked out.
-#[derive(Drop)]
+#[derive(Clone, Copy)]
 pub enum ShaderStage {
     Const,
     Override,
@@ -29,7 +31,7 @@ pub enum ShaderStage {
 }
 
 // What an operator answers: a value, or why it has none; a shift says the count and the left operand.
-#[derive(Drop)]
+#[derive(Clone, Copy)]
 pub enum Answer {
     Value(Scalar),
     Unary,
@@ -44,14 +46,14 @@ pub enum Answer {
 }
 
 // A scalar, where there is one.
-#[derive(Drop)]
+#[derive(Clone, Copy)]
 pub enum Found {
     Value(Scalar),
     Nothing,
 }
 
 // Two operands of one type, or that they have no common type.
-#[derive(Drop)]
+#[derive(Clone, Copy)]
 pub enum Pair {
     Bool(bool, bool),
     AbstractInt(i64, i64),
@@ -64,7 +66,7 @@ pub enum Pair {
 }
 
 // A refusal: its number and its detail, and the type and bits of the operand that a shift's carries. Any other's are 0.
-#[derive(Drop)]
+#[derive(Clone, Copy)]
 pub struct Refusal {
     pub bits: u64,
     pub detail: u32,

@@ -1,4 +1,6 @@
 // The words of a command, each ended by a byte 0, and the numbers that they spell.
+#![tactic(auto)]
+
 mod number;
 mod split;
 

@@ -2,7 +2,7 @@
 ghost use Rattle.std.specs.Prelude.{◌≡◌, ◌≤◌};
 ghost use Rattle.words.specs.Spelling.{low_digit, letter_digit, digit_of, spelled};
 
-#[derive(Drop)]
+#[derive(Clone, Copy)]
 pub enum Spelled {
     Number(u64),
     Nothing,

@@ -1,4 +1,6 @@
 // What an accepted body means over the slots, as a whole and node by node: a node's walk and the walk of its operands call one another.
+#![tactic(auto)]
+
 ghost use Rattle.std.specs.Prelude.{◌≡◌, false, ◌+◌, ◌<◌, eqb, length, get_or};
 ghost use Rattle.types.specs.Edition.{plain};
 ghost use Rattle.value.specs.Pattern.{pick};
@@ -14,14 +16,14 @@ use operand::Outcome;
 use sheet::Kind;
 
 // What a node means, and the place after it.
-#[derive(Drop)]
+#[derive(Clone, Copy)]
 pub struct Walked {
     pub answer: Outcome,
     pub next: usize,
 }
 
 // An operand has a value, or its refusal ends the node.
-#[derive(Drop)]
+#[derive(Clone, Copy)]
 pub enum Operand {
     Value,
     Ends,
