@@ -14,10 +14,9 @@ fn laid_out(operand: &[u8]) -> [u8; 131]
     out[0] = low::byte(operand, 0);
     out[1] = low::byte(operand, 1);
     out[2] = low::byte(operand, 2);
-    bytes::copy(
-        low::part(record::components(operand), 0, 128),
-        &mut out[3..131],
-    );
+    let components = low::part(record::components(operand), 0, 128);
+    let n = components.len();
+    out[3..3 + n].copy_from_slice(components);
     out
 }
 

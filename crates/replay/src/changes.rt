@@ -69,7 +69,7 @@ fn all_changed(sheet: &[u8], case: &[u8], results: &mut [u8], first: Place, coun
 // The bytes of `from` at the start of a buffer that holds them.
 fn put(out: &mut [u8], from: &[u8]) {
     if from.len() <= out.len() {
-        bytes::copy(from, out);
+        out[..from.len()].copy_from_slice(from);
     }
 }
 
