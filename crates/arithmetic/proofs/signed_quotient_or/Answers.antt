@@ -1,0 +1,12 @@
+-- `arithmetic::signed_quotient_or` meets its contract. Assumes nothing.
+use mir.Syntax.{w32}
+use mir.Val.{SFits}
+use mir.ValLaws.{to_z-of_z}
+use borrow.Author.Rules.{rules}
+use Rattle.arithmetic.proofs.signed_quotient_or.Goals as goal
+
+pub returns : goal.returns
+returns c =
+    let p = c.q-1.given in
+    let g : SFits w32 p.0.0 = search rules in
+    rw (p.1, to_z-of_z w32 _ g)

@@ -1,0 +1,12 @@
+-- `arithmetic::whole_quotient_or` meets its contract. Assumes nothing.
+use mir.Syntax.{w64}
+use mir.Val.{SFits}
+use mir.ValLaws.{to_z-of_z}
+use borrow.Author.Rules.{rules}
+use Rattle.arithmetic.proofs.whole_quotient_or.Goals as goal
+
+pub returns : goal.returns
+returns c =
+    let p = c.q-1.given in
+    let g : SFits w64 p.0.0 = search rules in
+    rw (p.1, to_z-of_z w64 _ g)

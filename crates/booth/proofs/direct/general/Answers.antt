@@ -1,0 +1,7 @@
+-- `booth::direct::general` meets its contract.
+use borrow.Author.Rules.{rules}
+use Rattle.booth.proofs.direct.general.Goals as goal
+
+pub returns : goal.returns
+returns c =
+    rw (← c.operand-l.ensures, ← c.operand-r.ensures, ← c.binary.ensures) c.settle.ensures

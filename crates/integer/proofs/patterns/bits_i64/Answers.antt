@@ -1,0 +1,16 @@
+-- `integer::patterns::bits_i64` meets its contract. Assumes nothing.
+use Rattle.std.proofs.Common.{w64}
+use Rattle.integer.proofs.Pattern.{neg_cast, neg_back, pos_cast, pos_back}
+use Rattle.integer.proofs.patterns.bits_i64.Goals as goal
+
+pub overflow_cast-result : goal.overflow_cast-result
+overflow_cast-result c = neg_cast w64 _ c.ranges.x c.if-x-lt0.true
+
+pub overflow_cast-result-else-x-lt0 : goal.overflow_cast-result-else-x-lt0
+overflow_cast-result-else-x-lt0 c = pos_cast w64 _ c.ranges.x c.if-x-lt0.false
+
+pub returns-then-x-lt0 : goal.returns-then-x-lt0
+returns-then-x-lt0 c = neg_back w64 _ c.ranges.x c.if-x-lt0.true
+
+pub returns-else-x-lt0 : goal.returns-else-x-lt0
+returns-else-x-lt0 c = pos_back w64 _ c.ranges.x c.if-x-lt0.false

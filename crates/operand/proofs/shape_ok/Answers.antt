@@ -1,0 +1,6 @@
+-- `operand::shape_ok` meets its contract. Assumes nothing.
+use borrow.Author.Rules.{rules}
+use Rattle.operand.proofs.shape_ok.Goals as goal
+
+pub returns : goal.returns
+returns c = cc

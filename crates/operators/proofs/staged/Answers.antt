@@ -1,0 +1,6 @@
+-- `operators::staged` meets its contract. Assumes nothing.
+use borrow.Author.Rules.{rules}
+use Rattle.operators.proofs.staged.Goals as goal
+
+pub returns : goal.returns
+returns c = rw (← c.Stage-code.ensures) c.binary.ensures

@@ -1,0 +1,10 @@
+-- `pairing::fits` meets its contract. Assumes nothing.
+use borrow.Author.Rules.{rules}
+use Rattle.pairing.proofs.Picks.{pick_yes, pick_no}
+use Rattle.pairing.proofs.fits.Goals as goal
+
+pub returns-then-is_product : goal.returns-then-is_product
+returns-then-is_product c = pick_yes _ _ c.is_product.ensures _ _ _ c.if-is_product.true c.inner_ok.ensures
+
+pub returns : goal.returns
+returns c = pick_no _ _ c.is_product.ensures _ _ _ c.if-is_product.false c.same_shape.ensures

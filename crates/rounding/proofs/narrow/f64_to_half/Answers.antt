@@ -1,0 +1,23 @@
+-- An F64 to the bits of an F16. Assumes nothing.
+use Rattle.std.proofs.Common.{T, sym, subst, arith, lit≤, rules}
+use lib.Ieee.{binary64}
+use Rattle.rounding.specs.Kind.{half}
+use Rattle.rounding.proofs.Units.{half_sized}
+use Rattle.rounding.proofs.Width.{bits_lt}
+use Rattle.rounding.proofs.Nan.{nan_half, real}
+use Rattle.rounding.proofs.Back.{narrowed}
+use Rattle.rounding.proofs.narrow.f64_to_half.Goals as goal
+
+pub returns-then-x : goal.returns-then-x
+returns-then-x c = nan_half c.args.x c.if-x.true
+
+pub narrow_bits-requires : goal.narrow_bits-requires
+narrow_bits-requires c =
+    (lit≤ tt, lit≤ tt, lit≤ tt, lit≤ tt, lit≤ tt, lit≤ tt, omega arith, real binary64 c.args.x (subst T (sym c.well_formed_lem.0.1) tt) c.if-x.false c.f64_bits.ensures)
+
+pub overflow_cast-result : goal.overflow_cast-result
+overflow_cast-result c = record { fits = rw (returns c) (bits_lt half half_sized c.args.x) }
+
+pub returns : goal.returns
+returns c =
+    narrowed binary64 half c.args.x (subst T (sym c.well_formed_lem.0.1) tt) c.f64_bits.ensures c.narrow_bits.ensures

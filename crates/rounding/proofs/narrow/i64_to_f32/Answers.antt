@@ -1,0 +1,21 @@
+-- An i64 to an F32, by its bits. Assumes nothing.
+use Rattle.std.proofs.Common.{◌≡◌, ap, ◌∙◌, lit≤, rules}
+use lib.Ieee.{binary32}
+use Rattle.rounding.specs.Kind.{single, of_integer}
+use Rattle.rounding.specs.Bits.{to_bits, of_bits}
+use Rattle.rounding.proofs.Units.{single_sized}
+use Rattle.rounding.proofs.Integer.{integer_most, integer_bits, integer_lt, integer_fits}
+use Rattle.rounding.proofs.Back.{bits_back}
+use Rattle.rounding.proofs.narrow.i64_to_f32.Goals as goal
+
+bits : (c : tie.After-whole-bits) → c.whole-bits.result ≡ to_bits single (of_integer single c.before.before.args.n)
+bits c = integer_bits single c.before.before.args.n c.before.before.ranges.n c.before.size_i64.ensures c.whole-bits.ensures
+
+pub whole_bits-requires : goal.whole_bits-requires
+whole_bits-requires c = (integer_most c.args.n c.ranges.n c.size_i64.ensures, lit≤ tt, lit≤ tt, lit≤ tt, lit≤ tt)
+
+pub overflow_cast-whole_bits : goal.overflow_cast-whole_bits
+overflow_cast-whole_bits c = record { fits = rw (bits c) (integer_lt single single_sized c.args.n) }
+
+pub returns : goal.returns
+returns c = let n = c.args.n in c.f32_of_bits.ensures ∙ ap (of_bits single) (bits c) ∙ bits_back binary32 (of_integer single n) (integer_fits binary32 n)

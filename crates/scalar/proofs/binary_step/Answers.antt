@@ -1,0 +1,16 @@
+-- `scalar::binary_step` meets its contract. Assumes nothing.
+use Rattle.scalar.proofs.Steps.{by_shift, by_pair}
+use borrow.Author.Rules.{rules}
+use Rattle.scalar.proofs.binary_step.Goals as goal
+
+pub returns-then-op-ge17 : goal.returns-then-op-ge17
+returns-then-op-ge17 c =
+    let a = c.args in
+    by_shift a.op a.stage a.ty a.l a.r c.stage_of-at.ensures c.if-op-ge17.true
+    c.scalar_of-x.ensures c.scalar_of.ensures c.shift_op.ensures c.step_of.ensures
+
+pub returns : goal.returns
+returns c =
+    let a = c.args in
+    by_pair a.op a.stage a.ty a.l a.r c.stage_of-at.ensures c.if-op-ge17.false
+    c.pair_of.ensures c.binary_op.ensures c.step_of-2.ensures

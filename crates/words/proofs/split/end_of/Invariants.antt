@@ -1,0 +1,14 @@
+-- What is left of the part falls by one with each of its bytes; the measure is what is left of the slice.
+use mathlib.Core.Path.{◌≡◌}
+use lib.ListN.{length, drop}
+use Rattle.words.specs.Split.{before}
+use Rattle.words.proofs.Splits.{part_ends, part_more, part_none}
+use native.Mathlib.Omega.{arith}
+use Prim.Native.Nat.{◌+◌, ◌-◌}
+use Rattle.words.proofs.split.end_of.Given as goal
+
+abbrev pub invariant-loop-i : goal.invariant-loop-i
+invariant-loop-i l = l.from + length (before l.end (drop l.from l.s)) ≡ l.i + length (before l.end (drop l.i l.s))
+
+abbrev pub decreases-loop-i : goal.decreases-loop-i
+decreases-loop-i l = length l.s - l.i
