@@ -38,4 +38,4 @@ pub returns-in-F16 : goal.returns-in-F16
 returns-in-F16 c = rw c.in-F16.is c.half_answer.ensures
 
 pub returns-in_default : goal.returns-in_default
-returns-in_default c = let a = c.args in no_numbers a.op a.stage a.p c.in_default-own.keys7
+returns-in_default c = let a = c.args in no_numbers a.op a.stage a.p c.in_default.in_default-own.keys7

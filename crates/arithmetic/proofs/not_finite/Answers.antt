@@ -17,4 +17,4 @@ pub returns-in-6 : goal.returns-in-6
 returns-in-6 c = rw c.in-6.is c.in_exec-in-6.ensures
 
 pub returns-in_default : goal.returns-in_default
-returns-in_default c = let a = c.args in c.in_exec-in_default.ensures ∙ last_refusal a.op a.own a.stage a.left a.s c.in_default-own.rest
+returns-in_default c = let a = c.args in c.in_exec-in_default.ensures ∙ last_refusal a.op a.own a.stage a.left a.s c.in_default.in_default-own.rest

@@ -36,4 +36,4 @@ pub returns-in-F16 : goal.returns-in-F16
 returns-in-F16 c = rw c.in-F16.is (ap (λ (n : ℕ). value (F16 n)) c.neg_half.ensures)
 
 pub returns-in_default : goal.returns-in_default
-returns-in_default c = no_sign c.args.s c.in_default-own.keys6
+returns-in_default c = no_sign c.args.s c.in_default.in_default-own.keys6

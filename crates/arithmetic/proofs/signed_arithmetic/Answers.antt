@@ -52,4 +52,4 @@ returns-in_default c =
     let g : SFits w32 a.y = search rules in
     quotient_arm w32 signed_quotient_or SQ.Undefined SQ.Value rem_z (λ x. no_rem a.stage (I32 (pos 0))) f g
     c.rem_i32.ensures c.in_exec-in_default.ensures c.signed_quotient_or-in_default.ensures
-    ∙ last_answer a.op a.stage (P.I32 a.x a.y) c.in_default-own.rest
+    ∙ last_answer a.op a.stage (P.I32 a.x a.y) c.in_default.in_default-own.rest

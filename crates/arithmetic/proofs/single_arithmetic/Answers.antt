@@ -19,4 +19,4 @@ pub returns-in-6 : goal.returns-in-6
 returns-in-6 c = rw c.in-6.is (div_is binary32 _ _)
 
 pub returns-in_default : goal.returns-in_default
-returns-in_default c = let a = c.args in rem_is binary32 _ _ ∙ last_float a.op single a.x a.y c.in_default-own.rest
+returns-in_default c = let a = c.args in rem_is binary32 _ _ ∙ last_float a.op single a.x a.y c.in_default.in_default-own.rest

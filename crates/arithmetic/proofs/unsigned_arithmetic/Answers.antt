@@ -16,7 +16,7 @@ returns-then-y-eq0 c = rw c.in-6.is (c.in_exec.ensures ∙ picked _ _ (eq-eqb _ 
 pub returns-then-y-eq0-2 : goal.returns-then-y-eq0-2
 returns-then-y-eq0-2 c =
     let a = c.args in
-    c.in_exec-then-y-eq0-2.ensures ∙ picked _ _ (eq-eqb _ 0 c.if-y-eq0-2.true) ∙ last_answer a.op a.stage (P.U32 a.x a.y) c.in_default-own.rest
+    c.in_exec-then-y-eq0-2.ensures ∙ picked _ _ (eq-eqb _ 0 c.if-y-eq0-2.true) ∙ last_answer a.op a.stage (P.U32 a.x a.y) c.in_default.in_default-own.rest
 
 pub returns-in-3 : goal.returns-in-3
 returns-in-3 c = rw c.in-3.is (ap (λ (n : ℕ). value (U32 n)) c.add_u32.ensures)
@@ -33,4 +33,4 @@ returns-else-y-eq0 c = rw c.in-6.is (passed _ _ (ne_eqb _ 0 c.if-y-eq0.false))
 pub returns-else-y-eq0-2 : goal.returns-else-y-eq0-2
 returns-else-y-eq0-2 c =
     let a = c.args in
-    passed _ _ (ne_eqb _ 0 c.if-y-eq0-2.false) ∙ last_answer a.op a.stage (P.U32 a.x a.y) c.in_default-own.rest
+    passed _ _ (ne_eqb _ 0 c.if-y-eq0-2.false) ∙ last_answer a.op a.stage (P.U32 a.x a.y) c.in_default.in_default-own.rest

@@ -51,4 +51,4 @@ returns-in_default c =
     let g : SFits w64 a.y = search rules in
     quotient_arm w64 whole_quotient_or WQ.Undefined WQ.Value rem_z (λ x. no_rem a.stage (AbstractInt (pos 0))) f g
     c.rem_i64.ensures c.in_exec-in_default.ensures c.whole_quotient_or-in_default.ensures
-    ∙ last_answer a.op a.stage (P.AbstractInt a.x a.y) c.in_default-own.rest
+    ∙ last_answer a.op a.stage (P.AbstractInt a.x a.y) c.in_default.in_default-own.rest

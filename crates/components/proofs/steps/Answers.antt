@@ -7,9 +7,6 @@ use Rattle.components.specs.Components.{step_result, lane, binary_at}
 use Rattle.components.proofs.Turns.{Turn, turn_first, turn_next, turn_refused, turn_last, step_at}
 use Rattle.components.proofs.steps.Goals as goal
 
-pub loop-i-init : goal.loop-i-init
-loop-i-init c = turn_first _ _
-
 pub entry-requires : goal.entry-requires
 entry-requires c = omega (arith, c.requires.0 c.loop-i.i c.loop-i-test.true)
 
@@ -30,3 +27,6 @@ pub returns : goal.returns
 returns c =
     let h : c.args.n ≤ c.loop-i.i = omega arith in
     turn_last _ _ _ _ c.loop-i.invariant h _ c.finished.ensures
+
+pub loop-i-init : goal.loop-i-init
+loop-i-init c = turn_first _ _

@@ -10,9 +10,6 @@ use Rattle.products.specs.Products.{cell_at}
 use Rattle.products.proofs.Places.{from_inside, column_inside, row_small, column_small}
 use Rattle.products.proofs.cells.Goals as goal
 
-pub loop-i-init : goal.loop-i-init
-loop-i-init c = turn_first _ _
-
 pub overflow_mul-i : goal.overflow_mul-i
 overflow_mul-i c =
     let p = c.requires in
@@ -39,3 +36,6 @@ pub returns : goal.returns
 returns c =
     let h : c.args.n ≤ c.loop-i.i = omega arith in
     turn_last _ _ _ _ c.loop-i.invariant h _ c.finished.ensures
+
+pub loop-i-init : goal.loop-i-init
+loop-i-init c = turn_first _ _

@@ -28,7 +28,7 @@ pub returns-in_default : goal.returns-in_default
 returns-in_default c =
     let a = c.args in
     let few : a.op < 3 = no_arithmetic a.op c.if-op.false (omega arith) in
-    let zero : a.op ≡ 0 = omega (arith, few, c.in_default-own.rest.0.1, c.in_default-own.rest.1) in
+    let zero : a.op ≡ 0 = omega (arith, few, c.in_default.in_default-own.rest.0.1, c.in_default.in_default-own.rest.1) in
     rw zero
 
 pub returns-in_default-2 : goal.returns-in_default-2

@@ -6,4 +6,4 @@ use borrow.Author.Rules.{rules}
 use Rattle.scalar.proofs.unary_op.Goals as goal
 
 pub returns-in_default-op : goal.returns-in_default-op
-returns-in_default-op c = rw c.in-Value.is (past_one (unaries c.in-Value.s) unary c.args.op c.in_default-op-own.rest)
+returns-in_default-op c = rw c.in-Value.is (past_one (unaries c.in-Value.s) unary c.args.op c.in_default-op.in_default-op-own.rest)

@@ -7,4 +7,4 @@ pub returns-in-F16 : goal.returns-in-F16
 returns-in-F16 c = rw c.in-F16.is c.finite_half.ensures
 
 pub returns-in_default : goal.returns-in_default
-returns-in_default c = whole_finite c.args.s c.in_default-own.keys4
+returns-in_default c = whole_finite c.args.s c.in_default.in_default-own.keys4

@@ -31,4 +31,4 @@ returns-else-bits-gt31744 c = rw c.in-6.is (passed _ _ (le-ltb _ _ c.if-bits-gt3
 
 pub returns-in_default : goal.returns-in_default
 unfolding kept_of
-returns-in_default c = plain_kept _ _ c.in_default-own.rest
+returns-in_default c = plain_kept _ _ c.in_default.in_default-own.rest

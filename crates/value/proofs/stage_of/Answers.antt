@@ -6,4 +6,4 @@ use borrow.Author.Rules.{rules}
 use Rattle.value.proofs.stage_of.Goals as goal
 
 pub returns-in_default : goal.returns-in_default
-returns-in_default c = past_all (Const ∷ Override ∷ []) Exec c.args.code c.in_default-own.rest
+returns-in_default c = past_all (Const ∷ Override ∷ []) Exec c.args.code c.in_default.in_default-own.rest

@@ -34,4 +34,4 @@ pub returns-in-U32 : goal.returns-in-U32
 returns-in-U32 c = rw c.in-U32.is (ap (λ (n : ℕ). value (U32 n)) c.join_u32.ensures)
 
 pub returns-in_default : goal.returns-in_default
-returns-in_default c = let a = c.args in no_bits (truths_by a.op) (bits_by a.op) a.p c.in_default-own.keys5
+returns-in_default c = let a = c.args in no_bits (truths_by a.op) (bits_by a.op) a.p c.in_default.in_default-own.keys5

@@ -10,4 +10,4 @@ pub returns-in-15 : goal.returns-in-15
 returns-in-15 c = on_signed w64 c.args.x c.args.y (is_and c.in-15.is)
 
 pub returns-in_default : goal.returns-in_default
-returns-in_default c = on_signed w64 c.args.x c.args.y (is_xor _ c.in_default-own.rest)
+returns-in_default c = on_signed w64 c.args.x c.args.y (is_xor _ c.in_default.in_default-own.rest)

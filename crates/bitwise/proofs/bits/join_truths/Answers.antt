@@ -9,4 +9,4 @@ pub returns-in-15 : goal.returns-in-15
 returns-in-15 c = rw c.in-15.is
 
 pub returns-in_default : goal.returns-in_default
-returns-in_default c = rw (ne_eqb _ 14 c.in_default-own.rest.0.1, ne_eqb _ 15 c.in_default-own.rest.1)
+returns-in_default c = rw (ne_eqb _ 14 c.in_default.in_default-own.rest.0.1, ne_eqb _ 15 c.in_default.in_default-own.rest.1)

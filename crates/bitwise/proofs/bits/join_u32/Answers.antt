@@ -9,4 +9,4 @@ pub returns-in-15 : goal.returns-in-15
 returns-in-15 c = on_bits_lem _ _ (is_and c.in-15.is)
 
 pub returns-in_default : goal.returns-in_default
-returns-in_default c = on_bits_lem _ _ (is_xor _ c.in_default-own.rest)
+returns-in_default c = on_bits_lem _ _ (is_xor _ c.in_default.in_default-own.rest)

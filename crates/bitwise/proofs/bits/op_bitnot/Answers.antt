@@ -31,4 +31,4 @@ returns-in-U32 c = rw c.in-U32.is (ap (λ (n : ℕ). value (U32 n)) c.not_u32.en
 
 pub returns-in_default : goal.returns-in_default
 returns-in_default c =
-    no_integer unary (λ x. value (AbstractInt (not_z x))) (λ x. value (I32 (not_z x))) (λ x. value (U32 (not_u w32 x))) c.args.s c.in_default-own.keys4
+    no_integer unary (λ x. value (AbstractInt (not_z x))) (λ x. value (I32 (not_z x))) (λ x. value (U32 (not_u w32 x))) c.args.s c.in_default.in_default-own.keys4

@@ -34,4 +34,4 @@ pub returns-in_default : goal.returns-in_default
 returns-in_default c =
     let a = c.args in
     let r = reduced w32 a.n in
-    no_integer binary (wrapped_signed w64 AbstractInt a.n) (wrapped_signed w32 I32 r) (wrapped_unsigned w32 U32 r) a.l c.in_default-own.keys4
+    no_integer binary (wrapped_signed w64 AbstractInt a.n) (wrapped_signed w32 I32 r) (wrapped_unsigned w32 U32 r) a.l c.in_default.in_default-own.keys4

@@ -51,4 +51,4 @@ returns-else-strict-n-2 c =
     rw p.1 (limited_floor w32 floor_unsigned U32 a.n p.0.0 a.strict (e ∙ passed _ _ c.if-strict-n-2.false))
 
 pub returns-in_default : goal.returns-in_default
-returns-in_default c = no_floor c.args.strict c.args.l c.args.n c.in_default-own.keys4
+returns-in_default c = no_floor c.args.strict c.args.l c.args.n c.in_default.in_default-own.keys4

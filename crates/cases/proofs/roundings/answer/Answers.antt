@@ -64,4 +64,4 @@ returns-in-12 c = rw (c.in-12.is, number_of_test c.finite_half.result, c.finite_
 
 pub returns-in_default : goal.returns-in_default
 unfolding conversion_of
-returns-in_default c = past_one (conversions c.args.x) 0 c.args.what c.in_default-own.rest
+returns-in_default c = past_one (conversions c.args.x) 0 c.args.what c.in_default.in_default-own.rest

@@ -76,5 +76,5 @@ returns-in-18 c = rw c.in-18.is c.op_shr.ensures
 pub returns-in_default : goal.returns-in_default
 returns-in_default c =
     let a = c.args in
-    let m = c.in_default-own.rest in
+    let m = c.in_default.in_default-own.rest in
     c.op_bitxor.ensures ∙ other_binary a.stage a.l a.r a.op m.0.0 m.0.1 m.1

@@ -14,4 +14,4 @@ unfolding unary_by
 returns-in-2 c = rw c.in-2.is c.op_neg.ensures
 
 pub returns-in_default : goal.returns-in_default
-returns-in_default c = c.op_bitnot.ensures ∙ other_unary c.args.v c.args.op c.in_default-own.rest
+returns-in_default c = c.op_bitnot.ensures ∙ other_unary c.args.v c.args.op c.in_default.in_default-own.rest

@@ -18,4 +18,4 @@ pub returns-in-AbstractFloat : goal.returns-in-AbstractFloat
 returns-in-AbstractFloat c = rw c.in-AbstractFloat.is c.from_float.ensures
 
 pub returns-in_default : goal.returns-in_default
-returns-in_default c = concrete_stands c.args.ty c.args.s c.in_default-own.keys3 c.stand.ensures
+returns-in_default c = concrete_stands c.args.ty c.args.s c.in_default.in_default-own.keys3 c.stand.ensures

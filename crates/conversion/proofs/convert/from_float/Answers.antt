@@ -13,4 +13,4 @@ pub returns-in-6 : goal.returns-in-6
 returns-in-6 c = rw c.in-6.is c.float_to_f16.ensures
 
 pub returns-in_default : goal.returns-in_default
-returns-in_default c = float_rest _ _ c.in_default-own.rest
+returns-in_default c = float_rest _ _ c.in_default.in_default-own.rest

@@ -26,4 +26,4 @@ pub returns-in-6 : goal.returns-in-6
 returns-in-6 c = rw c.in-6.is (rw (to_z-of_z w64 _ c.ranges.x) at c.int_to_f16.ensures)
 
 pub returns-in_default : goal.returns-in_default
-returns-in_default c = past_one (targets c.args.x) Nothing c.args.ty c.in_default-own.rest
+returns-in_default c = past_one (targets c.args.x) Nothing c.args.ty c.in_default.in_default-own.rest

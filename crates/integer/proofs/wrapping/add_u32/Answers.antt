@@ -4,4 +4,4 @@ use Rattle.integer.proofs.Wrap.{wrap_u_pos}
 use Rattle.integer.proofs.wrapping.add_u32.Goals as goal
 
 pub returns : goal.returns
-returns c = c.wrapping_add_u32.ensures ∙ wrap_u_pos w32 _
+returns c = c.wrapping_add_u32.ensures.value ∙ wrap_u_pos w32 _

@@ -6,4 +6,4 @@ use Rattle.integer.proofs.wrapping.neg_i32.Goals as goal
 pub returns : goal.returns
 returns c =
     let l : Fits w32 c.wrapping_sub_u32.result = search rules in
-    wrapped_neg w32 c.ranges.x l c.bits_i32.ensures c.wrapping_sub_u32.ensures c.i32_of_bits.ensures
+    wrapped_neg w32 c.ranges.x l c.bits_i32.ensures c.wrapping_sub_u32.ensures.value c.i32_of_bits.ensures

@@ -6,4 +6,4 @@ use Rattle.integer.proofs.wrapping.neg_i64.Goals as goal
 pub returns : goal.returns
 returns c =
     let l : Fits w64 c.wrapping_sub_u64.result = search rules in
-    wrapped_neg w64 c.ranges.x l c.bits_i64.ensures c.wrapping_sub_u64.ensures c.i64_of_bits.ensures
+    wrapped_neg w64 c.ranges.x l c.bits_i64.ensures c.wrapping_sub_u64.ensures.value c.i64_of_bits.ensures

@@ -17,7 +17,7 @@ pub loop-n-preserved : goal.loop-n-preserved
 loop-n-preserved c =
     let l = c.loop-n in
     let a = c.args in
-    let more = eights_more a.b.now a.at a.t3 l.n (omega arith) (omega arith) in
+    let more = eights_more a.b.now a.at a.xs l.n (omega arith) (omega arith) in
     (omega arith, omega arith, c.put64.ensures ∙ rw l.invariant.2 more)
 
 pub returns : goal.returns

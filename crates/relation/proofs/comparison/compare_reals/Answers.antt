@@ -18,4 +18,4 @@ pub returns-in-12 : goal.returns-in-12
 returns-in-12 c = rw c.in-12.is
 
 pub returns-in_default : goal.returns-in_default
-returns-in_default c = last_reals _ c.in_default-own.rest _ _
+returns-in_default c = last_reals _ c.in_default.in_default-own.rest _ _

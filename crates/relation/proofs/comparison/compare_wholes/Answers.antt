@@ -46,4 +46,4 @@ returns-in_default c =
     let a = c.args in
     let f : SFits w64 a.x = search rules in
     let g : SFits w64 a.y = search rules in
-    parts w64 (λ x y. le_z y x) f g ∙ last_wholes a.op c.in_default-own.rest a.x a.y
+    parts w64 (λ x y. le_z y x) f g ∙ last_wholes a.op c.in_default.in_default-own.rest a.x a.y

@@ -7,4 +7,4 @@ pub returns-in-Bool : goal.returns-in-Bool
 returns-in-Bool c = rw c.in-Bool.is
 
 pub returns-in_default : goal.returns-in_default
-returns-in_default c = no_truths ◌||◌ c.args.p c.in_default-own.keys2
+returns-in_default c = no_truths ◌||◌ c.args.p c.in_default.in_default-own.keys2

@@ -9,16 +9,16 @@ use Rattle.rounding.proofs.Nan.{nan_narrowed, zero_by_zero, real}
 use Rattle.rounding.proofs.Back.{narrowed, bits_back, convert_fits}
 use Rattle.rounding.proofs.narrow.f64_to_f32.Goals as goal
 
-bits : (c : tie.After-narrow-bits) → c.narrow-bits.result ≡ to_bits single (convert single c.before.before.before.args.x)
-bits c =
-    let s = c.before.before.before in narrowed binary64 single s.args.x (subst T (sym s.well_formed_lem.0.1) tt) c.before.f64-bits.ensures c.narrow-bits.ensures
-
 pub returns-then-x : goal.returns-then-x
 returns-then-x c = zero_by_zero binary32 ∙ sym (nan_narrowed single c.args.x c.if-x.true)
 
 pub narrow_bits-requires : goal.narrow_bits-requires
 narrow_bits-requires c =
     (lit≤ tt, lit≤ tt, lit≤ tt, lit≤ tt, lit≤ tt, lit≤ tt, omega arith, real binary64 c.args.x (subst T (sym c.well_formed_lem.0.1) tt) c.if-x.false c.f64_bits.ensures)
+
+bits : (c : tie.After-narrow-bits) → c.narrow-bits.result ≡ to_bits single (convert single c.before.before.before.args.x)
+bits c =
+    let s = c.before.before.before in narrowed binary64 single s.args.x (subst T (sym s.well_formed_lem.0.1) tt) c.before.f64-bits.ensures c.narrow-bits.ensures
 
 pub overflow_cast-narrow_bits : goal.overflow_cast-narrow_bits
 overflow_cast-narrow_bits c = record { fits = rw (bits c) (bits_lt single single_sized c.args.x) }

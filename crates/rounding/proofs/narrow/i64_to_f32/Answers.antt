@@ -8,11 +8,11 @@ use Rattle.rounding.proofs.Integer.{integer_most, integer_bits, integer_lt, inte
 use Rattle.rounding.proofs.Back.{bits_back}
 use Rattle.rounding.proofs.narrow.i64_to_f32.Goals as goal
 
-bits : (c : tie.After-whole-bits) → c.whole-bits.result ≡ to_bits single (of_integer single c.before.before.args.n)
-bits c = integer_bits single c.before.before.args.n c.before.before.ranges.n c.before.size_i64.ensures c.whole-bits.ensures
-
 pub whole_bits-requires : goal.whole_bits-requires
 whole_bits-requires c = (integer_most c.args.n c.ranges.n c.size_i64.ensures, lit≤ tt, lit≤ tt, lit≤ tt, lit≤ tt)
+
+bits : (c : tie.After-whole-bits) → c.whole-bits.result ≡ to_bits single (of_integer single c.before.before.args.n)
+bits c = integer_bits single c.before.before.args.n c.before.before.ranges.n c.before.size_i64.ensures c.whole-bits.ensures
 
 pub overflow_cast-whole_bits : goal.overflow_cast-whole_bits
 overflow_cast-whole_bits c = record { fits = rw (bits c) (integer_lt single single_sized c.args.n) }

@@ -6,11 +6,11 @@ use Rattle.rounding.proofs.Units.{half_sized}
 use Rattle.rounding.proofs.Integer.{integer_most, integer_bits, integer_lt}
 use Rattle.rounding.proofs.narrow.i64_to_half.Goals as goal
 
-bits : (c : tie.After-whole-bits) → c.whole-bits.result ≡ to_bits half (of_integer half c.before.before.args.n)
-bits c = integer_bits half c.before.before.args.n c.before.before.ranges.n c.before.size_i64.ensures c.whole-bits.ensures
-
 pub whole_bits-requires : goal.whole_bits-requires
 whole_bits-requires c = (integer_most c.args.n c.ranges.n c.size_i64.ensures, lit≤ tt, lit≤ tt, lit≤ tt, lit≤ tt)
+
+bits : (c : tie.After-whole-bits) → c.whole-bits.result ≡ to_bits half (of_integer half c.before.before.args.n)
+bits c = integer_bits half c.before.before.args.n c.before.before.ranges.n c.before.size_i64.ensures c.whole-bits.ensures
 
 pub overflow_cast-result : goal.overflow_cast-result
 overflow_cast-result c = record { fits = rw (bits c) (integer_lt half half_sized c.args.n) }

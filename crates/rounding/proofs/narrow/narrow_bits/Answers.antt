@@ -21,12 +21,12 @@ nonzero_div-field c = lead_pos (wide c)
 pub overflow_mul-sign : goal.overflow_mul-sign
 overflow_mul-sign c = record { fits = sign_fits (wide c) c.args.b c.requires.6 c.sign_weight.ensures }
 
-pub overflow_add-result : goal.overflow_add-result
-overflow_add-result c = record { fits = answer_fits (wide w) c.args.b (returns-then-off-reach c) }
-
 pub returns-then-off-reach : goal.returns-then-off-reach
 returns-then-off-reach c =
     past (wide c) c.args.b c.requires.6 c.sign_weight.ensures c.if-off-reach.true c.requires.7 c.infinity.ensures
+
+pub overflow_add-result : goal.overflow_add-result
+overflow_add-result c = record { fits = answer_fits (wide w) c.args.b (returns-then-off-reach c) }
 
 pub overflow_mul-off : goal.overflow_mul-off
 overflow_mul-off c =
@@ -40,12 +40,12 @@ pub round_whole-requires : goal.round_whole-requires
 round_whole-requires c =
     (omega (arith, size_small (wide w) c.args.b), c.requires.1, omega arith)
 
-pub overflow_add-result-then-off-field : goal.overflow_add-result-then-off-field
-overflow_add-result-then-off-field c = record { fits = answer_fits (wide w) c.args.b (returns-then-off-field c) }
-
 pub returns-then-off-field : goal.returns-then-off-field
 returns-then-off-field c =
     leading (wide c) c.args.b c.requires.6 c.sign_weight.ensures c.if-off-field.true c.if-off-reach.false c.round_whole.ensures
+
+pub overflow_add-result-then-off-field : goal.overflow_add-result-then-off-field
+overflow_add-result-then-off-field c = record { fits = answer_fits (wide w) c.args.b (returns-then-off-field c) }
 
 pub returns-then-digits-cut : goal.returns-then-digits-cut
 returns-then-digits-cut c =
@@ -61,9 +61,9 @@ pub round_whole-requires-2 : goal.round_whole-requires-2
 round_whole-requires-2 c =
     (digits_small (wide w) c.args.b, omega (arith, c.if-off-field.false), omega (arith, c.if-digits-cut.false))
 
-pub overflow_add-result-2 : goal.overflow_add-result-2
-overflow_add-result-2 c = record { fits = answer_fits (wide w) c.args.b (returns c) }
-
 pub returns : goal.returns
 returns c =
     below (wide c) c.args.b c.requires.6 c.sign_weight.ensures c.requires.4 c.if-off-field.false c.if-digits-cut.false c.round_whole-2.ensures
+
+pub overflow_add-result-2 : goal.overflow_add-result-2
+overflow_add-result-2 c = record { fits = answer_fits (wide w) c.args.b (returns c) }

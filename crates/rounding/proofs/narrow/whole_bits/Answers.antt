@@ -20,11 +20,6 @@ capped c =
     ⊎_elim (λ w. omega (arith, w.0.taken, w.1)) (λ w. omega (arith, w.0.left, w.1)) c.if1.branch
     ∙ (λ i. min (c.before.before.whole-size.ensures i) (c.before.infinity.ensures i))
 
-pub overflow_add-result : goal.overflow_add-result
-overflow_add-result c =
-    let g = c.args in
-    omega (arith, returns-then-neg c, round_lt (kind g.digits g.reach) (sized s) g.neg g.n 1, sign_small g.digits g.reach (omega arith) (omega arith))
-
 pub returns-then-neg : goal.returns-then-neg
 returns-then-neg c =
     let g = c.args in
@@ -32,6 +27,11 @@ returns-then-neg c =
     (λ i. c.sign_weight.ensures i + capped j i)
     ∙ ap (λ (b : Bool). cond b (signed k) 0 + min (pack g.digits (g.n * 2 ^ least k) 1) (full k * hidden k)) (sym c.if-neg.true)
     ∙ sym (round_bits k (sized s) g.neg g.n 1)
+
+pub overflow_add-result : goal.overflow_add-result
+overflow_add-result c =
+    let g = c.args in
+    omega (arith, returns-then-neg c, round_lt (kind g.digits g.reach) (sized s) g.neg g.n 1, sign_small g.digits g.reach (omega arith) (omega arith))
 
 pub returns-else-neg : goal.returns-else-neg
 returns-else-neg c =

@@ -14,19 +14,6 @@ some c = positive c.before.args.n c.if1.false
     positive : (n : ℕ) → (n ≡ 0 → ⊥) → 0 < n
     positive n h = omega arith
 
-rounded : (c : tie.After-round-whole)
-    → let g = c.before.before.args in c.round_whole.result ≡ closest (g.n * 2 ^ count_leading_zeros 64 g.n / 2) (2 ^ (63 - g.digits))
-rounded c =
-    let g = c.before.before.args in
-    c.round_whole.ensures ∙ ap (λ (x : ℕ). closest (x / 2) (2 ^ (63 - g.digits))) (top_is g.n (some c.before) c.before.before.ranges.n.fits)
-
-product : (c : tie.After-weight)
-    → let g = c.before.before.before.args in (62 + g.reach - count_leading_zeros 64 g.n) * c.weight.result ≤ 2 ^ 31
-product c =
-    let s = c.before.before.before in
-    let x = 62 + s.args.reach - count_leading_zeros 64 s.args.n in
-    subst (λ (w : ℕ). x * w ≤ 2 ^ 31) (sym c.weight.ensures) (product_lt x s.args.digits (omega arith) s.requires.2)
-
 pub returns-then-n-eq0 : goal.returns-then-n-eq0
 returns-then-n-eq0 c =
     let g = c.args in
@@ -40,6 +27,19 @@ overflow_shl-top c = zeros_lt c.args.n (some c) c.ranges.n.fits
 
 pub overflow_sub-result : goal.overflow_sub-result
 overflow_sub-result c = omega (arith, zeros_lt c.args.n (some c) c.ranges.n.fits)
+
+rounded : (c : tie.After-round-whole)
+    → let g = c.before.before.args in c.round_whole.result ≡ closest (g.n * 2 ^ count_leading_zeros 64 g.n / 2) (2 ^ (63 - g.digits))
+rounded c =
+    let g = c.before.before.args in
+    c.round_whole.ensures ∙ ap (λ (x : ℕ). closest (x / 2) (2 ^ (63 - g.digits))) (top_is g.n (some c.before) c.before.before.ranges.n.fits)
+
+product : (c : tie.After-weight)
+    → let g = c.before.before.before.args in (62 + g.reach - count_leading_zeros 64 g.n) * c.weight.result ≤ 2 ^ 31
+product c =
+    let s = c.before.before.before in
+    let x = 62 + s.args.reach - count_leading_zeros 64 s.args.n in
+    subst (λ (w : ℕ). x * w ≤ 2 ^ 31) (sym c.weight.ensures) (product_lt x s.args.digits (omega arith) s.requires.2)
 
 pub overflow_mul-result : goal.overflow_mul-result
 overflow_mul-result c = omega (arith, product c)

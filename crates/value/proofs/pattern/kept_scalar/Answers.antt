@@ -9,4 +9,4 @@ pub returns-in-F16 : goal.returns-in-F16
 returns-in-F16 c = rw c.in-F16.is (ap F16 c.kept_half.ensures)
 
 pub returns-in_default : goal.returns-in_default
-returns-in_default c = others_kept _ c.in_default-own.keys2
+returns-in_default c = others_kept _ c.in_default.in_default-own.keys2

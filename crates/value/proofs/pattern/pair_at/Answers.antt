@@ -63,4 +63,4 @@ pub returns-in-6 : goal.returns-in-6
 returns-in-6 c = rw (c.in-6.is, c.kept_half.ensures, c.kept_half-in-6.ensures)
 
 pub returns-in_default : goal.returns-in_default
-returns-in_default c = let a = c.args in ap (λ f. both_of f (scalar_at a.ty a.r)) (past_all (scalars a.l) Nothing a.ty c.in_default-own.rest)
+returns-in_default c = let a = c.args in ap (λ f. both_of f (scalar_at a.ty a.r)) (past_all (scalars a.l) Nothing a.ty c.in_default.in_default-own.rest)

@@ -44,4 +44,4 @@ pub returns-in-6 : goal.returns-in-6
 returns-in-6 c = rw (c.in-6.is, c.kept_half.ensures)
 
 pub returns-in_default : goal.returns-in_default
-returns-in_default c = past_all (scalars c.args.bits) Nothing c.args.ty c.in_default-own.rest
+returns-in_default c = past_all (scalars c.args.bits) Nothing c.args.ty c.in_default.in_default-own.rest

@@ -10,4 +10,4 @@ pub returns-in-ShrOverflow : goal.returns-in-ShrOverflow
 returns-in-ShrOverflow c = rw c.in-ShrOverflow.is
 
 pub returns-in_default : goal.returns-in_default
-returns-in_default c = no_detail c.args.a c.in_default-own.keys3
+returns-in_default c = no_detail c.args.a c.in_default.in_default-own.keys3

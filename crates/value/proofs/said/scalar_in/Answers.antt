@@ -13,4 +13,4 @@ pub returns-in-ShrOverflow : goal.returns-in-ShrOverflow
 returns-in-ShrOverflow c = rw c.in-ShrOverflow.is
 
 pub returns-in_default : goal.returns-in_default
-returns-in_default c = no_scalar c.args.a c.in_default-own.keys4
+returns-in_default c = no_scalar c.args.a c.in_default.in_default-own.keys4
