@@ -13,10 +13,9 @@ use Rattle.arithmetic.proofs.arithmetic_pair.Goals as goal
 pub returns-in-AbstractInt : goal.returns-in-AbstractInt
 returns-in-AbstractInt c =
     let a = c.args in
-    let p = c.p-1.given in
-    let f : SFits w64 p.0.0 = search rules in
-    let g : SFits w64 p.0.1.0 = search rules in
-    rw p.1 (c.whole_arithmetic.ensures ∙ parts w64 (λ x y. arithmetic_by a.op a.stage (P.AbstractInt x y)) f g)
+    let f : SFits w64 c.in-AbstractInt.x = search rules in
+    let g : SFits w64 c.in-AbstractInt.y = search rules in
+    rw c.in-AbstractInt.is (c.whole_arithmetic.ensures ∙ parts w64 (λ x y. arithmetic_by a.op a.stage (P.AbstractInt x y)) f g)
 
 pub returns-in-AbstractFloat : goal.returns-in-AbstractFloat
 returns-in-AbstractFloat c = rw c.in-AbstractFloat.is c.double_answer.ensures
@@ -24,10 +23,9 @@ returns-in-AbstractFloat c = rw c.in-AbstractFloat.is c.double_answer.ensures
 pub returns-in-I32 : goal.returns-in-I32
 returns-in-I32 c =
     let a = c.args in
-    let p = c.p-in-I32-1.given in
-    let f : SFits w32 p.0.0 = search rules in
-    let g : SFits w32 p.0.1.0 = search rules in
-    rw p.1 (c.signed_arithmetic.ensures ∙ parts w32 (λ x y. arithmetic_by a.op a.stage (P.I32 x y)) f g)
+    let f : SFits w32 c.in-I32.x = search rules in
+    let g : SFits w32 c.in-I32.y = search rules in
+    rw c.in-I32.is (c.signed_arithmetic.ensures ∙ parts w32 (λ x y. arithmetic_by a.op a.stage (P.I32 x y)) f g)
 
 pub returns-in-U32 : goal.returns-in-U32
 returns-in-U32 c = rw c.in-U32.is c.unsigned_arithmetic.ensures

@@ -15,20 +15,18 @@ use Rattle.arithmetic.proofs.op_neg.Goals as goal
 
 pub returns-in-AbstractInt : goal.returns-in-AbstractInt
 returns-in-AbstractInt c =
-    let p = c.s-1.given in
-    let f : SFits w64 p.0.0 = search rules in
+    let f : SFits w64 c.in-AbstractInt.x = search rules in
     let g : SFits w64 c.neg_i64.result = search rules in
-    rw p.1 (ap (λ (z : ℤ). value (AbstractInt z)) (called w64 (λ z. wrap_s w64 (neg_ℤ z)) g f c.neg_i64.ensures))
+    rw c.in-AbstractInt.is (ap (λ (z : ℤ). value (AbstractInt z)) (called w64 (λ z. wrap_s w64 (neg_ℤ z)) g f c.neg_i64.ensures))
 
 pub returns-in-AbstractFloat : goal.returns-in-AbstractFloat
 returns-in-AbstractFloat c = rw c.in-AbstractFloat.is
 
 pub returns-in-I32 : goal.returns-in-I32
 returns-in-I32 c =
-    let p = c.s-in-I32-1.given in
-    let f : SFits w32 p.0.0 = search rules in
+    let f : SFits w32 c.in-I32.x = search rules in
     let g : SFits w32 c.neg_i32.result = search rules in
-    rw p.1 (ap (λ (z : ℤ). value (I32 z)) (called w32 (λ z. wrap_s w32 (neg_ℤ z)) g f c.neg_i32.ensures))
+    rw c.in-I32.is (ap (λ (z : ℤ). value (I32 z)) (called w32 (λ z. wrap_s w32 (neg_ℤ z)) g f c.neg_i32.ensures))
 
 pub returns-in-F32 : goal.returns-in-F32
 returns-in-F32 c = rw c.in-F32.is

@@ -7,6 +7,5 @@ use Rattle.arithmetic.proofs.signed_quotient_or.Goals as goal
 
 pub returns : goal.returns
 returns c =
-    let p = c.q-1.given in
-    let g : SFits w32 p.0.0 = search rules in
-    rw (p.1, to_z-of_z w32 _ g)
+    let g : SFits w32 c.in-Value.z = search rules in
+    rw (c.in-Value.is, to_z-of_z w32 _ g)

@@ -3,4 +3,4 @@ use borrow.Author.Rules.{rules}
 use Rattle.operators.proofs.staged.Goals as goal
 
 pub returns : goal.returns
-returns c = rw (← c.Stage-code.ensures) c.binary.ensures
+returns c = rw (← c.stage_code.ensures) c.binary.ensures

@@ -5,11 +5,11 @@ use Rattle.pairing.proofs.targets_of.Goals as goal
 
 pub returns-then-known-y : goal.returns-then-known-y
 returns-then-known-y c =
-    shift_targets _ _ _ c.if-op-ge17.true _ _ c.known.ensures c.Goes-to.ensures c.if-known-y.true
+    shift_targets _ _ _ c.if-op-ge17.true _ _ c.known.ensures c.goes_to.ensures c.if-known-y.true
 
 pub returns-then-op-ge17 : goal.returns-then-op-ge17
 returns-then-op-ge17 c =
-    shift_none _ _ _ c.if-op-ge17.true _ _ c.known.ensures c.Goes-to.ensures c.if-known-y.false
+    shift_none _ _ _ c.if-op-ge17.true _ _ c.known.ensures c.goes_to.ensures c.if-known-y.false
 
 pub returns-then-known-x : goal.returns-then-known-x
 returns-then-known-x c = equal_types _ _ _ c.if-op-ge17.false _ c.known-2.ensures c.if-known-x.true

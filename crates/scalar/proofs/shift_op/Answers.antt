@@ -8,17 +8,14 @@ use Rattle.scalar.proofs.shift_op.Goals as goal
 pub returns-in-17 : goal.returns-in-17
 returns-in-17 c =
     let a = c.args in
-    let p = c.l-1.given in
-    rw p.1 (c.shift.ensures ∙ shift_code a.stage p.0.0 a.count a.op (omega arith) (omega arith))
+    rw c.in-Value.is (c.shift.ensures ∙ shift_code a.stage c.in-Value.s a.count a.op (omega arith) (omega arith))
 
 pub returns-in_default-op : goal.returns-in_default-op
 returns-in_default-op c =
     let a = c.args in
-    let p = c.l-1.given in
-    rw p.1 (no_shift a.stage p.0.0 a.count a.op (λ e. omega (arith, e)) (λ e. omega (arith, e)))
+    rw c.in-Value.is (no_shift a.stage c.in-Value.s a.count a.op (λ e. omega (arith, e)) (λ e. omega (arith, e)))
 
 pub returns-in_default-op-2 : goal.returns-in_default-op-2
 returns-in_default-op-2 c =
     let a = c.args in
-    let p = c.l-1.given in
-    rw p.1 (no_shift a.stage p.0.0 a.count a.op (λ e. omega (arith, e)) (λ e. omega (arith, e)))
+    rw c.in-Value.is (no_shift a.stage c.in-Value.s a.count a.op (λ e. omega (arith, e)) (λ e. omega (arith, e)))

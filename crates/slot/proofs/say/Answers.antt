@@ -9,10 +9,10 @@ pub put32-requires : goal.put32-requires
 put32-requires c = simp length-set (omega arith)
 
 pub put_words-requires : goal.put_words-requires
-put_words-requires c = omega (arith, simp length-set at c.put32.auto.0)
+put_words-requires c = omega (arith, simp length-set at c.put32.auto.b)
 
 pub shape_of-b : goal.shape_of-b
-shape_of-b c = omega (arith, c.put_words.auto.0, simp length-set at c.put32.auto.0)
+shape_of-b c = omega (arith, c.put_words.auto.b, simp length-set at c.put32.auto.b)
 
 pub returns : goal.returns
 returns c =

@@ -17,19 +17,17 @@ returns-in-Bool c = rw c.in-Bool.is c.join_truths.ensures
 
 pub returns-in-AbstractInt : goal.returns-in-AbstractInt
 returns-in-AbstractInt c =
-    let p = c.p-in-AbstractInt-1.given in
-    let f : SFits w64 p.0.0 = search rules in
-    let g : SFits w64 p.0.1.0 = search rules in
+    let f : SFits w64 c.in-AbstractInt.x = search rules in
+    let g : SFits w64 c.in-AbstractInt.y = search rules in
     let d : SFits w64 c.join_i64.result = search rules in
-    rw p.1 (ap (λ (z : ℤ). value (AbstractInt z)) (signed_arm w64 (bits_by c.args.op) d f g c.join_i64.ensures))
+    rw c.in-AbstractInt.is (ap (λ (z : ℤ). value (AbstractInt z)) (signed_arm w64 (bits_by c.args.op) d f g c.join_i64.ensures))
 
 pub returns-in-I32 : goal.returns-in-I32
 returns-in-I32 c =
-    let p = c.p-in-I32-1.given in
-    let f : SFits w32 p.0.0 = search rules in
-    let g : SFits w32 p.0.1.0 = search rules in
+    let f : SFits w32 c.in-I32.x = search rules in
+    let g : SFits w32 c.in-I32.y = search rules in
     let d : SFits w32 c.join_i32.result = search rules in
-    rw p.1 (ap (λ (z : ℤ). value (I32 z)) (signed_arm w32 (bits_by c.args.op) d f g c.join_i32.ensures))
+    rw c.in-I32.is (ap (λ (z : ℤ). value (I32 z)) (signed_arm w32 (bits_by c.args.op) d f g c.join_i32.ensures))
 
 pub returns-in-U32 : goal.returns-in-U32
 returns-in-U32 c = rw c.in-U32.is (ap (λ (n : ℕ). value (U32 n)) c.join_u32.ensures)

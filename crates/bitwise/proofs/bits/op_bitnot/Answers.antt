@@ -15,17 +15,15 @@ use Rattle.bitwise.proofs.bits.op_bitnot.Goals as goal
 
 pub returns-in-AbstractInt : goal.returns-in-AbstractInt
 returns-in-AbstractInt c =
-    let p = c.s-1.given in
-    let f : SFits w64 p.0.0 = search rules in
+    let f : SFits w64 c.in-AbstractInt.x = search rules in
     let g : SFits w64 c.not_i64.result = search rules in
-    rw p.1 (ap (λ (z : ℤ). value (AbstractInt z)) (called w64 not_z g f c.not_i64.ensures))
+    rw c.in-AbstractInt.is (ap (λ (z : ℤ). value (AbstractInt z)) (called w64 not_z g f c.not_i64.ensures))
 
 pub returns-in-I32 : goal.returns-in-I32
 returns-in-I32 c =
-    let p = c.s-in-I32-1.given in
-    let f : SFits w32 p.0.0 = search rules in
+    let f : SFits w32 c.in-I32.x = search rules in
     let g : SFits w32 c.not_i32.result = search rules in
-    rw p.1 (ap (λ (z : ℤ). value (I32 z)) (called w32 not_z g f c.not_i32.ensures))
+    rw c.in-I32.is (ap (λ (z : ℤ). value (I32 z)) (called w32 not_z g f c.not_i32.ensures))
 
 pub returns-in-U32 : goal.returns-in-U32
 returns-in-U32 c = rw c.in-U32.is (ap (λ (n : ℕ). value (U32 n)) c.not_u32.ensures)

@@ -12,20 +12,17 @@ use Rattle.bitwise.proofs.shifts.shl_exact.Goals as goal
 
 pub returns-in-AbstractInt : goal.returns-in-AbstractInt
 returns-in-AbstractInt c =
-    let p = c.l-1.given in
-    let f : SFits w64 p.0.0 = search rules in
-    rw p.1 (whole_answer c.args.n p.0.0 f c.whole_shl.ensures c.shl_i64.ensures)
+    let f : SFits w64 c.in-AbstractInt.x = search rules in
+    rw c.in-AbstractInt.is (whole_answer c.args.n c.in-AbstractInt.x f c.whole_shl.ensures c.shl_i64.ensures)
 
 pub returns-in-I32 : goal.returns-in-I32
 returns-in-I32 c =
-    let p = c.l-in-I32-1.given in
-    let f : SFits w32 p.0.0 = search rules in
-    rw p.1 (signed_answer c.args.n p.0.0 f c.signed_shl.ensures c.shl_i32.ensures)
+    let f : SFits w32 c.in-I32.x = search rules in
+    rw c.in-I32.is (signed_answer c.args.n c.in-I32.x f c.signed_shl.ensures c.shl_i32.ensures)
 
 pub returns-in-U32 : goal.returns-in-U32
 returns-in-U32 c =
-    let p = c.l-in-U32-1.given in
-    rw p.1 (unsigned_answer c.args.n p.0.0 c.unsigned_shl.ensures c.shl_u32.ensures)
+    rw c.in-U32.is (unsigned_answer c.args.n c.in-U32.x c.unsigned_shl.ensures c.shl_u32.ensures)
 
 pub returns-in_default : goal.returns-in_default
 returns-in_default c = let a = c.args in no_integer binary (exact_whole a.n) (exact_signed w32 I32 a.n) (exact_unsigned w32 U32 a.n) a.l (opened c.in_default.in_default-own.keys4)

@@ -16,17 +16,15 @@ use Rattle.bitwise.proofs.shifts.shl_wrapped.Goals as goal
 
 pub returns-in-AbstractInt : goal.returns-in-AbstractInt
 returns-in-AbstractInt c =
-    let p = c.l-1.given in
-    let f : SFits w64 p.0.0 = search rules in
+    let f : SFits w64 c.in-AbstractInt.x = search rules in
     let g : SFits w64 c.shl_wrapping_i64.result = search rules in
-    rw p.1 (ap (λ (z : ℤ). value (AbstractInt z)) (called w64 (λ z. wrap_s w64 (z *ℤ pos (2 ^ c.args.n))) g f c.shl_wrapping_i64.ensures))
+    rw c.in-AbstractInt.is (ap (λ (z : ℤ). value (AbstractInt z)) (called w64 (λ z. wrap_s w64 (z *ℤ pos (2 ^ c.args.n))) g f c.shl_wrapping_i64.ensures))
 
 pub returns-in-I32 : goal.returns-in-I32
 returns-in-I32 c =
-    let p = c.l-in-I32-1.given in
-    let f : SFits w32 p.0.0 = search rules in
+    let f : SFits w32 c.in-I32.x = search rules in
     let g : SFits w32 c.shl_wrapping_i32.result = search rules in
-    rw p.1 (ap (λ (z : ℤ). value (I32 z)) (called w32 (λ z. wrap_s w32 (z *ℤ pos (2 ^ reduced w32 c.args.n))) g f c.shl_wrapping_i32.ensures))
+    rw c.in-I32.is (ap (λ (z : ℤ). value (I32 z)) (called w32 (λ z. wrap_s w32 (z *ℤ pos (2 ^ reduced w32 c.args.n))) g f c.shl_wrapping_i32.ensures))
 
 pub returns-in-U32 : goal.returns-in-U32
 returns-in-U32 c = rw c.in-U32.is (ap (λ (n : ℕ). value (U32 n)) c.shl_wrapping_u32.ensures)

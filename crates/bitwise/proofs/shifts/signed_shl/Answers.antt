@@ -7,9 +7,8 @@ use Rattle.bitwise.proofs.shifts.signed_shl.Goals as goal
 
 pub returns-in-Value : goal.returns-in-Value
 returns-in-Value c =
-    let p = c.w-1.given in
-    let f : SFits w32 p.0.0 = search rules in
-    rw (p.1, to_z-of_z w32 _ f)
+    let f : SFits w32 c.in-Value.x = search rules in
+    rw (c.in-Value.is, to_z-of_z w32 _ f)
 
 pub returns-in-Over : goal.returns-in-Over
 returns-in-Over c = rw c.in-Over.is

@@ -11,9 +11,8 @@ use Rattle.conversion.proofs.convert.convert.Goals as goal
 
 pub returns-in-AbstractInt : goal.returns-in-AbstractInt
 returns-in-AbstractInt c =
-    let p = c.s-1.given in
-    let g : SFits w64 p.0.0 = search rules in
-    rw p.1 (c.from_int.ensures ∙ ap (from_int c.args.ty) (to_z-of_z w64 _ g))
+    let g : SFits w64 c.in-AbstractInt.x = search rules in
+    rw c.in-AbstractInt.is (c.from_int.ensures ∙ ap (from_int c.args.ty) (to_z-of_z w64 _ g))
 
 pub returns-in-AbstractFloat : goal.returns-in-AbstractFloat
 returns-in-AbstractFloat c = rw c.in-AbstractFloat.is c.from_float.ensures

@@ -13,11 +13,11 @@ bounds-marks-k c =
 
 pub returns-then-names_marked : goal.returns-then-names_marked
 returns-then-names_marked c =
-    turns_hit _ _ _ c.span_at-r.ensures _ c.body-b.ensures.bytes _ _ _ c.Names-marked.ensures c.if-names_marked.true
+    turns_hit _ _ _ c.span_at-r.ensures _ c.body-b.ensures.bytes _ _ _ c.names_marked.ensures c.if-names_marked.true
 
 pub bounds-marks-k-2 : goal.bounds-marks-k-2
 bounds-marks-k-2 c = here_few _ _ _ c.requires
 
 pub returns : goal.returns
 returns c =
-    turns_not _ _ _ c.span_at-r.ensures _ c.body-b.ensures.bytes _ _ _ c.Names-marked.ensures c.if-names_marked.false
+    turns_not _ _ _ c.span_at-r.ensures _ c.body-b.ensures.bytes _ _ _ c.names_marked.ensures c.if-names_marked.false

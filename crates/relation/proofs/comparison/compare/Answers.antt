@@ -13,16 +13,14 @@ returns-in-Truths c =
 pub returns-in-Wholes : goal.returns-in-Wholes
 returns-in-Wholes c =
     let op = c.args.op in
-    let p = c.x-in-Wholes-1.given in
-    let f : SFits w64 p.0.0 = search rules in
-    let g : SFits w64 p.0.1.0 = search rules in
-    of_numbers (compared op) c.numbers.ensures p.1 (compared_wholes op p.0.0 p.0.1.0 (c.compare_wholes.ensures ∙ parts w64 (wholes_by op) f g))
+    let f : SFits w64 c.in-Wholes.x = search rules in
+    let g : SFits w64 c.in-Wholes.y = search rules in
+    of_numbers (compared op) c.numbers.ensures c.in-Wholes.is (compared_wholes op c.in-Wholes.x c.in-Wholes.y (c.compare_wholes.ensures ∙ parts w64 (wholes_by op) f g))
 
 pub returns-in-Reals : goal.returns-in-Reals
 returns-in-Reals c =
     let op = c.args.op in
-    let p = c.x-in-Reals-1.given in
-    of_numbers (compared op) c.numbers.ensures p.1 (compared_reals op p.0.0 p.0.1.0 c.compare_reals.ensures)
+    of_numbers (compared op) c.numbers.ensures c.in-Reals.is (compared_reals op c.in-Reals.x c.in-Reals.y c.compare_reals.ensures)
 
 pub returns-in-None : goal.returns-in-None
 returns-in-None c =

@@ -19,27 +19,24 @@ returns-in-Bool c = rw c.in-Bool.is
 
 pub returns-in-AbstractInt : goal.returns-in-AbstractInt
 returns-in-AbstractInt c =
-    let p = c.p-in-AbstractInt-1.given in
-    let f : SFits w64 p.0.0 = search rules in
-    let g : SFits w64 p.0.1.0 = search rules in
-    rw (p.1, to_z-of_z w64 _ f, to_z-of_z w64 _ g)
+    let f : SFits w64 c.in-AbstractInt.x = search rules in
+    let g : SFits w64 c.in-AbstractInt.y = search rules in
+    rw (c.in-AbstractInt.is, to_z-of_z w64 _ f, to_z-of_z w64 _ g)
 
 pub returns-in-AbstractFloat : goal.returns-in-AbstractFloat
 returns-in-AbstractFloat c = rw c.in-AbstractFloat.is
 
 pub returns-in-I32 : goal.returns-in-I32
 returns-in-I32 c =
-    let p = c.p-in-I32-1.given in
-    let f : SFits w32 p.0.0 = search rules in
-    let g : SFits w32 p.0.1.0 = search rules in
-    rw (p.1, to_z-of_z w32 _ f, to_z-of_z w32 _ g, to_z-of_z w64 _ (wider _ f), to_z-of_z w64 _ (wider _ g))
+    let f : SFits w32 c.in-I32.x = search rules in
+    let g : SFits w32 c.in-I32.y = search rules in
+    rw (c.in-I32.is, to_z-of_z w32 _ f, to_z-of_z w32 _ g, to_z-of_z w64 _ (wider _ f), to_z-of_z w64 _ (wider _ g))
 
 pub returns-in-U32 : goal.returns-in-U32
 returns-in-U32 c =
-    let p = c.p-in-U32-1.given in
-    let f : Fits w32 p.0.0 = search rules in
-    let g : Fits w32 p.0.1.0 = search rules in
-    rw (p.1, natural_wider _ f, natural_wider _ g)
+    let f : Fits w32 c.in-U32.x = search rules in
+    let g : Fits w32 c.in-U32.y = search rules in
+    rw (c.in-U32.is, natural_wider _ f, natural_wider _ g)
 
 pub returns-in-F32 : goal.returns-in-F32
 returns-in-F32 c = rw (c.in-F32.is, c.f32_to_f64_with_nan.ensures, c.f32_to_f64_with_nan-in-F32.ensures)

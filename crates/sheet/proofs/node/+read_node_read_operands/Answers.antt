@@ -1,0 +1,70 @@
+-- The node reader and the operand reader: they call one another, and the bytes left fall at each call.
+use Prim.Native.Nat.{ℕ, ◌<◌, ◌+◌, ◌-◌}
+use native.Mathlib.Omega.{arith}
+use mathlib.Core.Path.{sym, ap, ◌∙◌}
+use lib.ListN.{length}
+use borrow.Author.Rules.{rules}
+use borrow.Author.Tests.{not-true, not-false}
+use Rattle.low.specs.Read.{seen_of}
+use Rattle.sheet.specs.Node.{read_node}
+use Rattle.sheet.proofs.Nodes.{node_cut, seen_literal, seen_reference, seen_unary, seen_binary, seen_unknown, read_past}
+use Rattle.sheet.proofs.Nodes.{operator_cut, operator_bad, operator_one, operator_two, operator_two_not}
+use Rattle.sheet.proofs.node.+read_node_read_operands.Goals as goal
+
+pub read_node-returns-then-levels-eq0 : goal.read_node-returns-then-levels-eq0
+unfolding read_node
+read_node-returns-then-levels-eq0 t c = simp c.if-levels-eq0.true
+
+pub read_node-returns-then-remaining-lt1 : goal.read_node-returns-then-remaining-lt1
+read_node-returns-then-remaining-lt1 t c = ap seen_of (sym (node_cut _ _ _ _ _ _ c.if-levels-eq0.false (omega arith)))
+
+pub read_node-read_operands-requires : goal.read_node-read_operands-requires
+read_node-read_operands-requires t c = (omega arith, tt)
+
+pub read_node-read_operands-requires-in-4 : goal.read_node-read_operands-requires-in-4
+read_node-read_operands-requires-in-4 t c = (omega arith, tt)
+
+pub read_node-returns-in-1 : goal.read_node-returns-in-1
+read_node-returns-in-1 t c = c.read_literal.ensures ∙ sym (seen_literal _ _ _ _ _ _ c.if-levels-eq0.false (omega arith) c.in-1.is)
+
+pub read_node-returns-in-2 : goal.read_node-returns-in-2
+read_node-returns-in-2 t c = c.read_reference.ensures ∙ sym (seen_reference _ _ _ _ _ _ c.if-levels-eq0.false (omega arith) c.in-2.is)
+
+pub read_node-returns-in-3 : goal.read_node-returns-in-3
+read_node-returns-in-3 t c = c.read_operands.ensures ∙ sym (seen_unary _ _ _ _ _ _ c.if-levels-eq0.false (omega arith) c.in-3.is)
+
+pub read_node-returns-in-4 : goal.read_node-returns-in-4
+read_node-returns-in-4 t c = c.read_operands-in-4.ensures ∙ sym (seen_binary _ _ _ _ _ _ c.if-levels-eq0.false (omega arith) c.in-4.is)
+
+pub read_node-returns-in_default : goal.read_node-returns-in_default
+read_node-returns-in_default t c =
+    let others = c.in_default.in_default-own.rest in
+    sym (seen_unknown _ _ _ _ _ _ c.if-levels-eq0.false (omega arith) others.0.0.0.1 others.0.0.1 others.0.1 others.1)
+
+pub read_operands-returns-then-remaining-lt2 : goal.read_operands-returns-then-remaining-lt2
+read_operands-returns-then-remaining-lt2 t c = operator_cut _ _ _ _ (omega arith)
+
+pub read_operands-returns-then-not-known_operator : goal.read_operands-returns-then-not-known_operator
+read_operands-returns-then-not-known_operator t c = operator_bad _ _ _ _ (omega arith) _ c.known_operator.ensures (not-true _ c.if-not-known_operator.true-raw)
+
+pub read_operands-read_node-first-requires : goal.read_operands-read_node-first-requires
+read_operands-read_node-first-requires t c = (omega arith, tt)
+
+pub read_operands-returns-in_default : goal.read_operands-returns-in_default
+read_operands-returns-in_default t c =
+    operator_two_not _ _ _ _ (omega arith) _ c.known_operator.ensures (not-false _ c.if-not-known_operator.false-raw) c.if-two.true _
+    c.read_node-first.ensures _ _ c.in_default.is
+
+pub read_operands-read_node-requires : goal.read_operands-read_node-requires
+read_operands-read_node-requires t c =
+    (omega (arith, read_past _ _ _ _ _ _ _ (omega arith) (sym c.in-Good.is ∙ c.read_node-first.ensures)), tt)
+
+pub read_operands-returns-then-two : goal.read_operands-returns-then-two
+read_operands-returns-then-two t c =
+    c.read_node.ensures
+    ∙ operator_two _ _ _ _ (omega arith) _ c.known_operator.ensures (not-false _ c.if-not-known_operator.false-raw) c.if-two.true _
+    c.read_node-first.ensures _ c.in-Good.is
+
+pub read_operands-returns : goal.read_operands-returns
+read_operands-returns t c =
+    c.read_node-first.ensures ∙ operator_one _ _ _ _ (omega arith) _ c.known_operator.ensures (not-false _ c.if-not-known_operator.false-raw) c.if-two.false
