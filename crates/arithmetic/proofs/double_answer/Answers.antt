@@ -14,5 +14,5 @@ pub returns : goal.returns
 returns c =
     let a = c.args in
     double_arm a.op a.stage a.x a.y
-    (c.not-Finite.ensures ∙ passed _ _ (sym c.finite_f64.ensures ∙ c.if-finite_f64.false))
+    (c.not_finite.ensures ∙ passed _ _ (sym c.finite_f64.ensures ∙ c.if-finite_f64.false))
     c.double_arithmetic-v.ensures

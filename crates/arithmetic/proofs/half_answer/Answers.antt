@@ -17,6 +17,6 @@ returns c =
     let a = c.args in
     let v = F16 c.half_arithmetic-v.result in
     halves_arm a.op a.stage a.x a.y
-    (c.not-Finite.ensures ∙ ap (λ left. not_finite a.op a.stage a.stage left v) c.kept_scalar-left.ensures
+    (c.not_finite.ensures ∙ ap (λ left. not_finite a.op a.stage a.stage left v) c.kept_scalar-left.ensures
     ∙ passed _ _ (sym c.finite_half.ensures ∙ c.if-finite_half.false))
     c.half_arithmetic-v.ensures
