@@ -40,7 +40,7 @@ one_of s false a b h k = k
 
 shl_carries : (stage : ShaderStage) (s : Scalar) (n : ℕ) → Carries s (shl_by stage s n)
 shl_carries stage s n =
-    elim s [
+    elim s as (λ s. Carries s (shl_by stage s n)) [
       | bool x ↦ one_of _ (strict stage) _ _ refl refl
       | AbstractInt x ↦ one_of _ (strict stage) _ _ (one_of _ (in_signed w64 (x *ℤ pos (2 ^ n))) (value (AbstractInt (x *ℤ pos (2 ^ n)))) (shl_overflow n (AbstractInt x)) tt refl) tt
       | AbstractFloat x ↦ one_of _ (strict stage) _ _ refl refl
@@ -52,7 +52,7 @@ shl_carries stage s n =
 
 shr_carries : (stage : ShaderStage) (s : Scalar) (n : ℕ) → Carries s (shr_by stage s n)
 shr_carries stage s n =
-    elim s [
+    elim s as (λ s. Carries s (shr_by stage s n)) [
       | bool x ↦ one_of _ (strict stage) _ _ refl refl
       | AbstractInt x ↦ one_of _ (strict stage) _ _ tt tt
       | AbstractFloat x ↦ one_of _ (strict stage) _ _ refl refl
@@ -64,7 +64,7 @@ shr_carries stage s n =
 
 counted : (s : Scalar) (count : Found) (by : ℕ → Result) → ((n : ℕ) → Carries s (by n)) → Carries s (by_count count by)
 counted s Nothing by h = refl
-counted s (Value c) by h = elim c [ bool x ↦ refl | AbstractInt x ↦ refl | AbstractFloat x ↦ refl | I32 x ↦ refl | U32 n ↦ h n | F32 x ↦ refl | F16 x ↦ refl ]
+counted s (Value c) by h = elim c as (λ c. Carries s (by_count (Value c) by)) [ bool x ↦ refl | AbstractInt x ↦ refl | AbstractFloat x ↦ refl | I32 x ↦ refl | U32 n ↦ h n | F32 x ↦ refl | F16 x ↦ refl ]
 
 shift_carries : (op : ℕ) (stage : ShaderStage) (s : Scalar) (count : Found) → Carries s (shift_of op stage (Value s) count)
 shift_carries op stage s count =

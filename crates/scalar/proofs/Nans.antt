@@ -109,7 +109,7 @@ whole_nan W.Over why k = k
 
 arithmetic_nan : (z : ℤ → ℤ → ℤ) (f : Kind → Float → Float → Float) (why : Result) → KeptNan why → (stage : ShaderStage) (p : Pair) → KeptNan (arithmetic z f why stage p)
 arithmetic_nan z f why w stage p =
-    elim p [
+    elim p as (λ p. KeptNan (arithmetic z f why stage p)) [
       | P.Bool x y ↦ tt
       | P.AbstractInt x y ↦ whole_nan (whole_of (z x y)) why w
       | P.AbstractFloat x y ↦ one_of (finite_of (AbstractFloat (f double x y))) (value (AbstractFloat (f double x y))) why refl w
@@ -126,7 +126,7 @@ in_exec_lem stage why s w k = one_of (strict stage) why (value s) w k
 
 div_nan : (stage : ShaderStage) (p : Pair) → KeptNan (div_of stage p)
 div_nan stage p =
-    elim p [
+    elim p as (λ p. KeptNan (div_of stage p)) [
       | P.Bool x y ↦ tt
       | P.AbstractInt x y ↦ one_of (no_quotient w64 x y) (no_div stage (AbstractInt x)) (value (AbstractInt (quot_z x y))) (in_exec_lem stage (answer_of DivByZero) (AbstractInt x) tt refl) refl
       | P.AbstractFloat x y ↦
@@ -144,7 +144,7 @@ div_nan stage p =
 
 rem_nan : (stage : ShaderStage) (p : Pair) → KeptNan (rem_of stage p)
 rem_nan stage p =
-    elim p [
+    elim p as (λ p. KeptNan (rem_of stage p)) [
       | P.Bool x y ↦ tt
       | P.AbstractInt x y ↦
           one_of (no_quotient w64 x y) (no_rem stage (AbstractInt (pos 0))) (value (AbstractInt (rem_z x y))) (in_exec_lem stage (answer_of RemZeroDiv) (AbstractInt (pos 0)) tt refl) refl
@@ -159,11 +159,11 @@ rem_nan stage p =
 -- ---- the others give no F16
 logical_nan : (f : Bool → Bool → Bool) (p : Pair) → KeptNan (logical f p)
 logical_nan f p =
-    elim p [ P.Bool x y ↦ refl | P.AbstractInt x y ↦ tt | P.AbstractFloat x y ↦ tt | P.I32 x y ↦ tt | P.U32 x y ↦ tt | P.F32 x y ↦ tt | P.F16 x y ↦ tt | P.None ↦ tt ]
+    elim p as (λ p. KeptNan (logical f p)) [ P.Bool x y ↦ refl | P.AbstractInt x y ↦ tt | P.AbstractFloat x y ↦ tt | P.I32 x y ↦ tt | P.U32 x y ↦ tt | P.F32 x y ↦ tt | P.F16 x y ↦ tt | P.None ↦ tt ]
 
 equality_nan : (b : Bool → Bool → Bool) (z : ℤ → ℤ → Bool) (f : Float → Float → Bool) (p : Pair) → KeptNan (equality b z f (numbers_of p))
 equality_nan b z f p =
-    elim p [
+    elim p as (λ p. KeptNan (equality b z f (numbers_of p))) [
       | P.Bool x y ↦ refl
       | P.AbstractInt x y ↦ refl
       | P.AbstractFloat x y ↦ refl
@@ -176,7 +176,7 @@ equality_nan b z f p =
 
 order_nan : (z : ℤ → ℤ → Bool) (f : Float → Float → Bool) (p : Pair) → KeptNan (order z f (numbers_of p))
 order_nan z f p =
-    elim p [
+    elim p as (λ p. KeptNan (order z f (numbers_of p))) [
       | P.Bool x y ↦ tt
       | P.AbstractInt x y ↦ refl
       | P.AbstractFloat x y ↦ refl
@@ -189,7 +189,7 @@ order_nan z f p =
 
 bitwise_nan : (bools : Bool → Bool → Result) (op : ℕ → ℕ → ℕ) → ((x y : Bool) → KeptNan (bools x y)) → (p : Pair) → KeptNan (bitwise bools op p)
 bitwise_nan bools op h p =
-    elim p [ P.Bool x y ↦ h x y | P.AbstractInt x y ↦ refl | P.AbstractFloat x y ↦ tt | P.I32 x y ↦ refl | P.U32 x y ↦ refl | P.F32 x y ↦ tt | P.F16 x y ↦ tt | P.None ↦ tt ]
+    elim p as (λ p. KeptNan (bitwise bools op p)) [ P.Bool x y ↦ h x y | P.AbstractInt x y ↦ refl | P.AbstractFloat x y ↦ tt | P.I32 x y ↦ refl | P.U32 x y ↦ refl | P.F32 x y ↦ tt | P.F16 x y ↦ tt | P.None ↦ tt ]
 
 pub binary_nan : (op : ℕ) (stage : ShaderStage) (p : Pair) → KeptNan (binary_of op stage p)
 binary_nan op stage p =
@@ -203,11 +203,11 @@ binary_nan op stage p =
 -- ---- shifts
 counted : (count : Found) (by : ℕ → Result) → ((n : ℕ) → KeptNan (by n)) → KeptNan (by_count count by)
 counted Nothing by h = tt
-counted (Value s) by h = elim s [ bool x ↦ tt | AbstractInt x ↦ tt | AbstractFloat x ↦ tt | I32 x ↦ tt | U32 n ↦ h n | F32 x ↦ tt | F16 x ↦ tt ]
+counted (Value s) by h = elim s as (λ s. KeptNan (by_count (Value s) by)) [ bool x ↦ tt | AbstractInt x ↦ tt | AbstractFloat x ↦ tt | I32 x ↦ tt | U32 n ↦ h n | F32 x ↦ tt | F16 x ↦ tt ]
 
 shl_nan : (stage : ShaderStage) (s : Scalar) (n : ℕ) → KeptNan (shl_by stage s n)
 shl_nan stage s n =
-    elim s [
+    elim s as (λ s. KeptNan (shl_by stage s n)) [
       | bool x ↦ one_of (strict stage) _ _ tt tt
       | AbstractInt x ↦ one_of (strict stage) _ _ (one_of (in_signed w64 (x *ℤ pos (2 ^ n))) (value (AbstractInt (x *ℤ pos (2 ^ n)))) (shl_overflow n (AbstractInt x)) refl refl) refl
       | AbstractFloat x ↦ one_of (strict stage) _ _ tt tt
@@ -219,7 +219,7 @@ shl_nan stage s n =
 
 shr_nan : (stage : ShaderStage) (s : Scalar) (n : ℕ) → KeptNan (shr_by stage s n)
 shr_nan stage s n =
-    elim s [
+    elim s as (λ s. KeptNan (shr_by stage s n)) [
       | bool x ↦ one_of (strict stage) _ _ tt tt
       | AbstractInt x ↦ one_of (strict stage) _ _ refl refl
       | AbstractFloat x ↦ one_of (strict stage) _ _ tt tt
@@ -241,7 +241,7 @@ operator_nan op stage l r =
     (shift_nan op stage l (convert_to 4 r)) (binary_nan op stage (pick (leb op 2) (pair_of l r) (common_of l r)))
 
 not_nan : (s : Scalar) → KeptNan (not_of s)
-not_nan s = elim s [ bool x ↦ refl | AbstractInt x ↦ tt | AbstractFloat x ↦ tt | I32 x ↦ tt | U32 x ↦ tt | F32 x ↦ tt | F16 x ↦ tt ]
+not_nan s = elim s as (λ s. KeptNan (not_of s)) [ bool x ↦ refl | AbstractInt x ↦ tt | AbstractFloat x ↦ tt | I32 x ↦ tt | U32 x ↦ tt | F32 x ↦ tt | F16 x ↦ tt ]
 
 neg_nan : (s : Scalar) → Sound s → KeptNan (neg_of s)
 neg_nan (bool x) h = tt
@@ -253,7 +253,7 @@ neg_nan (F32 x) h = refl
 neg_nan (F16 x) h = negated x h.fits
 
 bitnot_nan : (s : Scalar) → KeptNan (bit_not_of s)
-bitnot_nan s = elim s [ bool x ↦ tt | AbstractInt x ↦ refl | AbstractFloat x ↦ tt | I32 x ↦ refl | U32 x ↦ refl | F32 x ↦ tt | F16 x ↦ tt ]
+bitnot_nan s = elim s as (λ s. KeptNan (bit_not_of s)) [ bool x ↦ tt | AbstractInt x ↦ refl | AbstractFloat x ↦ tt | I32 x ↦ refl | U32 x ↦ refl | F32 x ↦ tt | F16 x ↦ tt ]
 
 pub unary_nan : (op : ℕ) (s : Scalar) → Sound s → KeptNan (unary_of op s)
 unary_nan op s h = entry (λ i r. KeptNan r) (unary ∷ unaries s) unary (λ i. tt) tt (not_nan s) (neg_nan s h) (bitnot_nan s) op

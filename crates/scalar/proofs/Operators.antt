@@ -91,7 +91,7 @@ half_found b = found_kept (finite_of (F16 b)) (F16 b) (λ e. ap F16 (finite_kept
 
 kept_twice : (s : Scalar) → kept_scalar (kept_scalar s) ≡ kept_scalar s
 kept_twice s =
-    elim s [ bool x ↦ refl | AbstractInt x ↦ refl | AbstractFloat x ↦ refl | I32 x ↦ refl | U32 x ↦ refl | F32 x ↦ refl | F16 x ↦ ap F16 (kept_once 6 x) ]
+    elim s as (λ s. kept_scalar (kept_scalar s) ≡ kept_scalar s) [ bool x ↦ refl | AbstractInt x ↦ refl | AbstractFloat x ↦ refl | I32 x ↦ refl | U32 x ↦ refl | F32 x ↦ refl | F16 x ↦ ap F16 (kept_once 6 x) ]
 
 stands_kept : (to : ℕ) (s : Scalar) → KeptFound (stands to s)
 stands_kept to s = found_kept (eqb (type_of s) to) (kept_scalar s) (λ e. kept_twice s)
@@ -115,7 +115,7 @@ conversion_kept to (F16 x) = stands_kept to (F16 x)
 -- whether a NaN was kept before is nothing to a conversion
 kept_before : (to : ℕ) (s : Scalar) → convert_to to (kept_scalar s) ≡ convert_to to s
 kept_before to s =
-    elim s [
+    elim s as (λ s. convert_to to (kept_scalar s) ≡ convert_to to s) [
       | bool x ↦ refl
       | AbstractInt x ↦ refl
       | AbstractFloat x ↦ refl
@@ -139,7 +139,7 @@ target_back to s u h e =
 
 -- the own type: the scalar stands, its NaN kept
 pub own_type : (s : Scalar) → convert_to (type_of s) s ≡ Value (kept_scalar s)
-own_type s = elim s [ bool x ↦ refl | AbstractInt x ↦ refl | AbstractFloat x ↦ refl | I32 x ↦ refl | U32 x ↦ refl | F32 x ↦ refl | F16 x ↦ refl ]
+own_type s = elim s as (λ s. convert_to (type_of s) s ≡ Value (kept_scalar s)) [ bool x ↦ refl | AbstractInt x ↦ refl | AbstractFloat x ↦ refl | I32 x ↦ refl | U32 x ↦ refl | F32 x ↦ refl | F16 x ↦ refl ]
 
 -- ---- steps
 module _ (op stage ty : ℕ) (u v : Scalar) (p : scalar_of ty (bits_of u) ≡ Value u) where
@@ -168,7 +168,7 @@ no_count op stage s = go (eqb op 17) (eqb op 18)
 
 pub shift_kept_left : (op : ℕ) (stage : ShaderStage) (s : Scalar) (count : Found) → shift_of op stage (Value (kept_scalar s)) count ≡ shift_of op stage (Value s) count
 shift_kept_left op stage s count =
-    elim s [ bool x ↦ refl | AbstractInt x ↦ refl | AbstractFloat x ↦ refl | I32 x ↦ refl | U32 x ↦ refl | F32 x ↦ refl | F16 x ↦ refl ]
+    elim s as (λ s. shift_of op stage (Value (kept_scalar s)) count ≡ shift_of op stage (Value s) count) [ bool x ↦ refl | AbstractInt x ↦ refl | AbstractFloat x ↦ refl | I32 x ↦ refl | U32 x ↦ refl | F32 x ↦ refl | F16 x ↦ refl ]
 
 -- a type that is neither the own nor one that the own goes to: what `goes_to` says of types, conversions do to values
 first_off : (a b : Bool) → (a || b) ≡ false → a ≡ false
@@ -196,21 +196,21 @@ module _ (f : Bool → Bool → Bool) where
   -- a pair of which one part is no Bool
   right_part : (a s : Scalar) → (type_of s ≡ 0 → ⊥) → logical f (pair_of a s) ≡ binary
   right_part a (bool y) h = absurd (h refl)
-  right_part a (AbstractInt y) h = elim a [ bool x ↦ refl | AbstractInt x ↦ refl | AbstractFloat x ↦ refl | I32 x ↦ refl | U32 x ↦ refl | F32 x ↦ refl | F16 x ↦ refl ]
-  right_part a (AbstractFloat y) h = elim a [ bool x ↦ refl | AbstractInt x ↦ refl | AbstractFloat x ↦ refl | I32 x ↦ refl | U32 x ↦ refl | F32 x ↦ refl | F16 x ↦ refl ]
-  right_part a (I32 y) h = elim a [ bool x ↦ refl | AbstractInt x ↦ refl | AbstractFloat x ↦ refl | I32 x ↦ refl | U32 x ↦ refl | F32 x ↦ refl | F16 x ↦ refl ]
-  right_part a (U32 y) h = elim a [ bool x ↦ refl | AbstractInt x ↦ refl | AbstractFloat x ↦ refl | I32 x ↦ refl | U32 x ↦ refl | F32 x ↦ refl | F16 x ↦ refl ]
-  right_part a (F32 y) h = elim a [ bool x ↦ refl | AbstractInt x ↦ refl | AbstractFloat x ↦ refl | I32 x ↦ refl | U32 x ↦ refl | F32 x ↦ refl | F16 x ↦ refl ]
-  right_part a (F16 y) h = elim a [ bool x ↦ refl | AbstractInt x ↦ refl | AbstractFloat x ↦ refl | I32 x ↦ refl | U32 x ↦ refl | F32 x ↦ refl | F16 x ↦ refl ]
+  right_part a (AbstractInt y) h = elim a as (λ a. logical f (pair_of a (AbstractInt y)) ≡ binary) [ bool x ↦ refl | AbstractInt x ↦ refl | AbstractFloat x ↦ refl | I32 x ↦ refl | U32 x ↦ refl | F32 x ↦ refl | F16 x ↦ refl ]
+  right_part a (AbstractFloat y) h = elim a as (λ a. logical f (pair_of a (AbstractFloat y)) ≡ binary) [ bool x ↦ refl | AbstractInt x ↦ refl | AbstractFloat x ↦ refl | I32 x ↦ refl | U32 x ↦ refl | F32 x ↦ refl | F16 x ↦ refl ]
+  right_part a (I32 y) h = elim a as (λ a. logical f (pair_of a (I32 y)) ≡ binary) [ bool x ↦ refl | AbstractInt x ↦ refl | AbstractFloat x ↦ refl | I32 x ↦ refl | U32 x ↦ refl | F32 x ↦ refl | F16 x ↦ refl ]
+  right_part a (U32 y) h = elim a as (λ a. logical f (pair_of a (U32 y)) ≡ binary) [ bool x ↦ refl | AbstractInt x ↦ refl | AbstractFloat x ↦ refl | I32 x ↦ refl | U32 x ↦ refl | F32 x ↦ refl | F16 x ↦ refl ]
+  right_part a (F32 y) h = elim a as (λ a. logical f (pair_of a (F32 y)) ≡ binary) [ bool x ↦ refl | AbstractInt x ↦ refl | AbstractFloat x ↦ refl | I32 x ↦ refl | U32 x ↦ refl | F32 x ↦ refl | F16 x ↦ refl ]
+  right_part a (F16 y) h = elim a as (λ a. logical f (pair_of a (F16 y)) ≡ binary) [ bool x ↦ refl | AbstractInt x ↦ refl | AbstractFloat x ↦ refl | I32 x ↦ refl | U32 x ↦ refl | F32 x ↦ refl | F16 x ↦ refl ]
 
   left_part : (s a : Scalar) → (type_of s ≡ 0 → ⊥) → logical f (pair_of s a) ≡ binary
   left_part (bool y) a h = absurd (h refl)
-  left_part (AbstractInt y) a h = elim a [ bool x ↦ refl | AbstractInt x ↦ refl | AbstractFloat x ↦ refl | I32 x ↦ refl | U32 x ↦ refl | F32 x ↦ refl | F16 x ↦ refl ]
-  left_part (AbstractFloat y) a h = elim a [ bool x ↦ refl | AbstractInt x ↦ refl | AbstractFloat x ↦ refl | I32 x ↦ refl | U32 x ↦ refl | F32 x ↦ refl | F16 x ↦ refl ]
-  left_part (I32 y) a h = elim a [ bool x ↦ refl | AbstractInt x ↦ refl | AbstractFloat x ↦ refl | I32 x ↦ refl | U32 x ↦ refl | F32 x ↦ refl | F16 x ↦ refl ]
-  left_part (U32 y) a h = elim a [ bool x ↦ refl | AbstractInt x ↦ refl | AbstractFloat x ↦ refl | I32 x ↦ refl | U32 x ↦ refl | F32 x ↦ refl | F16 x ↦ refl ]
-  left_part (F32 y) a h = elim a [ bool x ↦ refl | AbstractInt x ↦ refl | AbstractFloat x ↦ refl | I32 x ↦ refl | U32 x ↦ refl | F32 x ↦ refl | F16 x ↦ refl ]
-  left_part (F16 y) a h = elim a [ bool x ↦ refl | AbstractInt x ↦ refl | AbstractFloat x ↦ refl | I32 x ↦ refl | U32 x ↦ refl | F32 x ↦ refl | F16 x ↦ refl ]
+  left_part (AbstractInt y) a h = elim a as (λ a. logical f (pair_of (AbstractInt y) a) ≡ binary) [ bool x ↦ refl | AbstractInt x ↦ refl | AbstractFloat x ↦ refl | I32 x ↦ refl | U32 x ↦ refl | F32 x ↦ refl | F16 x ↦ refl ]
+  left_part (AbstractFloat y) a h = elim a as (λ a. logical f (pair_of (AbstractFloat y) a) ≡ binary) [ bool x ↦ refl | AbstractInt x ↦ refl | AbstractFloat x ↦ refl | I32 x ↦ refl | U32 x ↦ refl | F32 x ↦ refl | F16 x ↦ refl ]
+  left_part (I32 y) a h = elim a as (λ a. logical f (pair_of (I32 y) a) ≡ binary) [ bool x ↦ refl | AbstractInt x ↦ refl | AbstractFloat x ↦ refl | I32 x ↦ refl | U32 x ↦ refl | F32 x ↦ refl | F16 x ↦ refl ]
+  left_part (U32 y) a h = elim a as (λ a. logical f (pair_of (U32 y) a) ≡ binary) [ bool x ↦ refl | AbstractInt x ↦ refl | AbstractFloat x ↦ refl | I32 x ↦ refl | U32 x ↦ refl | F32 x ↦ refl | F16 x ↦ refl ]
+  left_part (F32 y) a h = elim a as (λ a. logical f (pair_of (F32 y) a) ≡ binary) [ bool x ↦ refl | AbstractInt x ↦ refl | AbstractFloat x ↦ refl | I32 x ↦ refl | U32 x ↦ refl | F32 x ↦ refl | F16 x ↦ refl ]
+  left_part (F16 y) a h = elim a as (λ a. logical f (pair_of (F16 y) a) ≡ binary) [ bool x ↦ refl | AbstractInt x ↦ refl | AbstractFloat x ↦ refl | I32 x ↦ refl | U32 x ↦ refl | F32 x ↦ refl | F16 x ↦ refl ]
 
   right_found : (a : Found) (s : Scalar) → (type_of s ≡ 0 → ⊥) → logical f (both_of a (Value s)) ≡ binary
   right_found (Value a) s h = right_part a s h
@@ -222,9 +222,9 @@ module _ (f : Bool → Bool → Bool) where
 
   pub logical_common : (l r : Scalar) → logical f (common_of l r) ≡ logical f (pair_of l r)
   unfolding common_type common_of
-  logical_common (bool x) r = elim r [ bool y ↦ refl | AbstractInt y ↦ refl | AbstractFloat y ↦ refl | I32 y ↦ refl | U32 y ↦ refl | F32 y ↦ refl | F16 y ↦ refl ]
+  logical_common (bool x) r = elim r as (λ r. logical f (common_of (bool x) r) ≡ logical f (pair_of (bool x) r)) [ bool y ↦ refl | AbstractInt y ↦ refl | AbstractFloat y ↦ refl | I32 y ↦ refl | U32 y ↦ refl | F32 y ↦ refl | F16 y ↦ refl ]
   logical_common (AbstractInt x) r =
-      elim r [
+      elim r as (λ r. logical f (common_of (AbstractInt x) r) ≡ logical f (pair_of (AbstractInt x) r)) [
         | bool y ↦ refl
         | AbstractInt y ↦ refl
         | AbstractFloat y ↦ right_found (from_int 2 x) (AbstractFloat y) (λ e. omega (arith, e))
@@ -234,7 +234,7 @@ module _ (f : Bool → Bool → Bool) where
         | F16 y ↦ right_found (from_int 6 x) (kept_scalar (F16 y)) (λ e. omega (arith, e))
       ]
   logical_common (AbstractFloat x) r =
-      elim r [
+      elim r as (λ r. logical f (common_of (AbstractFloat x) r) ≡ logical f (pair_of (AbstractFloat x) r)) [
         | bool y ↦ refl
         | AbstractInt y ↦ left_found (AbstractFloat x) (from_int 2 y) (λ e. omega (arith, e))
         | AbstractFloat y ↦ refl
@@ -244,7 +244,7 @@ module _ (f : Bool → Bool → Bool) where
         | F16 y ↦ right_found (from_float 6 x) (kept_scalar (F16 y)) (λ e. omega (arith, e))
       ]
   logical_common (I32 x) r =
-      elim r [
+      elim r as (λ r. logical f (common_of (I32 x) r) ≡ logical f (pair_of (I32 x) r)) [
         | bool y ↦ refl
         | AbstractInt y ↦ left_found (I32 x) (from_int 3 y) (λ e. omega (arith, e))
         | AbstractFloat y ↦ refl
@@ -254,7 +254,7 @@ module _ (f : Bool → Bool → Bool) where
         | F16 y ↦ refl
       ]
   logical_common (U32 x) r =
-      elim r [
+      elim r as (λ r. logical f (common_of (U32 x) r) ≡ logical f (pair_of (U32 x) r)) [
         | bool y ↦ refl
         | AbstractInt y ↦ left_found (U32 x) (from_int 4 y) (λ e. omega (arith, e))
         | AbstractFloat y ↦ refl
@@ -264,7 +264,7 @@ module _ (f : Bool → Bool → Bool) where
         | F16 y ↦ refl
       ]
   logical_common (F32 x) r =
-      elim r [
+      elim r as (λ r. logical f (common_of (F32 x) r) ≡ logical f (pair_of (F32 x) r)) [
         | bool y ↦ refl
         | AbstractInt y ↦ left_found (F32 x) (from_int 5 y) (λ e. omega (arith, e))
         | AbstractFloat y ↦ left_found (F32 x) (from_float 5 y) (λ e. omega (arith, e))
@@ -274,7 +274,7 @@ module _ (f : Bool → Bool → Bool) where
         | F16 y ↦ refl
       ]
   logical_common (F16 x) r =
-      elim r [
+      elim r as (λ r. logical f (common_of (F16 x) r) ≡ logical f (pair_of (F16 x) r)) [
         | bool y ↦ refl
         | AbstractInt y ↦ left_found (kept_scalar (F16 x)) (from_int 6 y) (λ e. omega (arith, e))
         | AbstractFloat y ↦ left_found (kept_scalar (F16 x)) (from_float 6 y) (λ e. omega (arith, e))
@@ -309,7 +309,7 @@ half_kept b = go (nan_pattern half b) refl
 
 unary_kept_same : (op : ℕ) (s : Scalar) → unary_of op (kept_scalar s) ≡ unary_of op s
 unary_kept_same op s =
-    elim s [
+    elim s as (λ s. unary_of op (kept_scalar s) ≡ unary_of op s) [
       | bool x ↦ refl
       | AbstractInt x ↦ refl
       | AbstractFloat x ↦ refl

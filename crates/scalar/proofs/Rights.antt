@@ -41,13 +41,13 @@ abbrev Rights : ℕ → (Scalar → Result) → Type 0
 Rights op f = (s : Scalar) → Righted (unary_right_of op (type_of s)) (stepped (f s))
 
 not_righted : Rights 1 not_of
-not_righted s = elim s [ bool x ↦ refl | AbstractInt x ↦ refl | AbstractFloat x ↦ refl | I32 x ↦ refl | U32 x ↦ refl | F32 x ↦ refl | F16 x ↦ refl ]
+not_righted s = elim s as (λ s. Righted (unary_right_of 1 (type_of s)) (stepped (not_of s))) [ bool x ↦ refl | AbstractInt x ↦ refl | AbstractFloat x ↦ refl | I32 x ↦ refl | U32 x ↦ refl | F32 x ↦ refl | F16 x ↦ refl ]
 
 neg_righted : Rights 2 neg_of
-neg_righted s = elim s [ bool x ↦ refl | AbstractInt x ↦ refl | AbstractFloat x ↦ refl | I32 x ↦ refl | U32 x ↦ refl | F32 x ↦ refl | F16 x ↦ refl ]
+neg_righted s = elim s as (λ s. Righted (unary_right_of 2 (type_of s)) (stepped (neg_of s))) [ bool x ↦ refl | AbstractInt x ↦ refl | AbstractFloat x ↦ refl | I32 x ↦ refl | U32 x ↦ refl | F32 x ↦ refl | F16 x ↦ refl ]
 
 bitnot_righted : Rights 3 bit_not_of
-bitnot_righted s = elim s [ bool x ↦ refl | AbstractInt x ↦ refl | AbstractFloat x ↦ refl | I32 x ↦ refl | U32 x ↦ refl | F32 x ↦ refl | F16 x ↦ refl ]
+bitnot_righted s = elim s as (λ s. Righted (unary_right_of 3 (type_of s)) (stepped (bit_not_of s))) [ bool x ↦ refl | AbstractInt x ↦ refl | AbstractFloat x ↦ refl | I32 x ↦ refl | U32 x ↦ refl | F32 x ↦ refl | F16 x ↦ refl ]
 
 pub unary_righted : (op ty v : ℕ) → Righted (unary_right_of op ty) (unary_step_of op ty v)
 unfolding unary_step_of
@@ -112,7 +112,7 @@ binary_lacks op stage ty p c =
 uncounted : (stage : ShaderStage) (count : Found) → by_count count (λ n. pick (strict stage) binary binary) ≡ binary
 uncounted stage Nothing = refl
 uncounted stage (Value s) =
-    elim s [ bool x ↦ refl | AbstractInt x ↦ refl | AbstractFloat x ↦ refl | I32 x ↦ refl | U32 n ↦ same (strict stage) | F32 x ↦ refl | F16 x ↦ refl ]
+    elim s as (λ s. by_count (Value s) (λ n. pick (strict stage) binary binary) ≡ binary) [ bool x ↦ refl | AbstractInt x ↦ refl | AbstractFloat x ↦ refl | I32 x ↦ refl | U32 n ↦ same (strict stage) | F32 x ↦ refl | F16 x ↦ refl ]
   where
     same : (t : Bool) → pick t binary binary ≡ binary
     same true = refl
@@ -124,7 +124,7 @@ module _ (op : ℕ) (f : Scalar → Result) where
       → ((x : _) → f (bool x) ≡ binary) → ((x : _) → f (AbstractFloat x) ≡ binary) → ((x : _) → f (F32 x) ≡ binary) → ((x : _) → f (F16 x) ≡ binary)
       → (s : Scalar) → Lacks op (type_of s) (f s)
   each_scalar a b c n m k o s =
-      elim s [
+      elim s as (λ s. Lacks op (type_of s) (f s)) [
         | bool x ↦ λ q. n x
         | AbstractInt x ↦ λ q. absurd (true≢false (sym a ∙ q))
         | AbstractFloat x ↦ λ q. m x
