@@ -54,7 +54,7 @@ settled_step op stage ty p q = go (step_of op stage ty p q) (step_answers op sta
     go (S.Refused r) h = refl
 
 known_type : (s : Scalar) → known_of (type_of s) ≡ true
-known_type s = elim s [ bool x ↦ refl | AbstractInt x ↦ refl | AbstractFloat x ↦ refl | I32 x ↦ refl | U32 x ↦ refl | F32 x ↦ refl | F16 x ↦ refl ]
+known_type s = elim s as (λ s. known_of (type_of s) ≡ true) [ bool x ↦ refl | AbstractInt x ↦ refl | AbstractFloat x ↦ refl | I32 x ↦ refl | U32 x ↦ refl | F32 x ↦ refl | F16 x ↦ refl ]
 
 -- ---- a binary operator
 module _ (op stage : ℕ) (l r : Scalar) (hl : Sound l) (hr : Sound r) where

@@ -24,7 +24,7 @@ converted-left-requires c = rw c.count.ensures (count_small _ (formed_small _ c.
 pub returns-then-left : goal.returns-then-left
 unfolding converted_to
 returns-then-left c =
-    on_stop _ _ (rw c.count.ensures at c.converted-left.ensures) _ _ c.if-left.true c.IsRefused-as.ensures
+    on_stop _ _ (rw c.count.ensures at c.converted-left.ensures) _ _ c.if-left.true c.refused_as.ensures
 
 pub count-requires-2 : goal.count-requires-2
 count-requires-2 c = formed_small _ c.requires.1

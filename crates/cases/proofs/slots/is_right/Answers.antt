@@ -5,4 +5,4 @@ use Rattle.cases.proofs.slots.is_right.Goals as goal
 
 pub returns : goal.returns
 unfolding slot_right
-returns c = rw (c.well-formed-2.ensures, c.byte.ensures)
+returns c = rw (c.well_formed-2.ensures, c.byte.ensures)

@@ -7,13 +7,13 @@ use Rattle.shape.proofs.scalars.judge.Goals as goal
 
 pub returns-in_default : goal.returns-in_default
 unfolding judged
-returns-in_default c = rw (← c.targets_of.ensures, c.in_default.is) (ap step_answer c.refuse.ensures)
+returns-in_default c = rw (← c.targets_of-targets.ensures, c.in_default.is) (ap step_answer c.refuse.ensures)
 
 pub convert-requires : goal.convert-requires
 convert-requires c =
     let p = c.requires in
-    (p.0, p.1, sym c.targets_of.ensures ∙ c.in-Types.is)
+    (p.0, p.1, sym c.targets_of-targets.ensures ∙ c.in-Types.is)
 
 pub returns : goal.returns
 unfolding judged
-returns c = rw (← c.targets_of.ensures, c.in-Types.is) c.convert.ensures
+returns c = rw (← c.targets_of-targets.ensures, c.in-Types.is) c.convert.ensures

@@ -8,4 +8,4 @@ pub returns-in-Bits : goal.returns-in-Bits
 returns-in-Bits c = rw c.in-Bits.is (c.answered.ensures ∙ ap value_of c.scalar.ensures)
 
 pub returns-in-Refused : goal.returns-in-Refused
-returns-in-Refused c = rw c.in-Refused.is c.IsRefused-as.ensures
+returns-in-Refused c = rw c.in-Refused.is c.refused_as.ensures

@@ -16,7 +16,7 @@ pub loop-k-preserved : goal.loop-k-preserved
 loop-k-preserved c =
     let results = c.args.results.now in
     let line = then c.loop-k.invariant.3 c.entry-p.ensures.0 (omega arith) in
-    (omega arith, omega arith, omega arith, rw (lines_more results c.loop-k.k, ← c.read-o.ensures, ← c.well-formed-2.ensures) line)
+    (omega arith, omega arith, omega arith, rw (lines_more results c.loop-k.k, ← c.read-o.ensures, ← c.well_formed-in-loop-k.ensures) line)
 
 pub returns : goal.returns
 returns c =
