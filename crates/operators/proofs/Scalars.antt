@@ -24,10 +24,10 @@ use Rattle.shape.proofs.Direct.{operand_of, result_answer, direct_binary, direct
 
 -- a stage's code is known and names the stage
 code_known : (stage : ShaderStage) → stage_known (stage_code stage) ≡ true
-code_known stage = elim stage [ Const ↦ refl | Override ↦ refl | Exec ↦ refl ]
+code_known stage = elim stage as (λ stage. stage_known (stage_code stage) ≡ true) [ Const ↦ refl | Override ↦ refl | Exec ↦ refl ]
 
 code_names : (stage : ShaderStage) → stage_of (stage_code stage) ≡ stage
-code_names stage = elim stage [ Const ↦ refl | Override ↦ refl | Exec ↦ refl ]
+code_names stage = elim stage as (λ stage. stage_of (stage_code stage) ≡ stage) [ Const ↦ refl | Override ↦ refl | Exec ↦ refl ]
 
 module _ (l r : Scalar) (hl : Sound l) (hr : Sound r) where
   by_code : (stage : ShaderStage) (op : ℕ) → op_known op ≡ true → binary_meaning op (stage_code stage) (operand_of l) (operand_of r) ≡ result_answer (operator_of op stage l r)
