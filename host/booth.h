@@ -1,4 +1,4 @@
-/* The functions of libbooth.a, the static library of crate booth. C99 or C++11; link with -lm.
+/* The functions of libbooth.a, the static library of crate booth_c. C99 or C++11; link with -lm.
  *
  * An answer is a uint64_t: the number in bits 32 to 39, the detail in bits 0 to 31. Number 0 is success.
  * A slice is a pointer and then a length. Slices that are written to must not overlap any other.

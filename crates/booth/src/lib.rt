@@ -1,5 +1,5 @@
-// What C calls. A slice is a pointer and a length. An answer is a number in bits 32 to 39 and its detail in bits 0 to 31; the number 0
-// is success. No function that C calls has a `requires`.
+// What C calls, by the exports of booth_c. A slice is a pointer and a length. An answer is a number in bits 32 to 39 and its detail in
+// bits 0 to 31; the number 0 is success. No function that C calls has a `requires`.
 #![tactic(auto)]
 
 mod direct;
