@@ -22,7 +22,7 @@ loop-k-smaller c = omega arith
 
 pub loop-k-preserved : goal.loop-k-preserved
 loop-k-preserved c =
-    (omega arith, c.turn-at.auto.1.0 ∙ c.loop-k.invariant.1, working_more _ _ _ _ _ _ _ _ c.loop-k.invariant.2 c.loop-k-test.true _ _ c.turn-at.ensures)
+    (omega arith, c.turn-at.auto.results ∙ c.loop-k.invariant.1, working_more _ _ _ _ _ _ _ _ c.loop-k.invariant.2 c.loop-k-test.true _ _ c.turn-at.ensures)
 
 pub shape_of-results : goal.shape_of-results
 shape_of-results c = c.loop-k.invariant.1
