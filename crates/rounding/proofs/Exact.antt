@@ -16,6 +16,8 @@ use Rattle.rounding.proofs.Wider.{odd_lift}
 -- ---- two values of a format that are the same number of its smallest values, with the same sign, are one
 bits_at : (f : Format) (x : Float) (s : Bool) (a : ℕ) → HasValue x s a (2 ^ low f) → Ieee.to_bits f x ≡ cond s (signed (of f)) 0 + field (Ieee.prec f) a
 bits_at f (fin t m e) s a v = to_bits_is f (fin t m e) ∙ bits_of (of f) t m e a v.1 ∙ ap (λ (b : Bool). cond b (signed (of f)) 0 + field (Ieee.prec f) a) v.0
+bits_at f Ieee.nan s a v = elim v [ ]
+bits_at f (Ieee.inf _) s a v = elim v [ ]
 
 pub units_unique : (f : Format) (x y : Float) (s : Bool) (a : ℕ) → T (fits f x) → T (fits f y) → HasValue x s a (2 ^ low f) → HasValue y s a (2 ^ low f) → x ≡ y
 units_unique f x y s a p q v w = sym (of_bits-to_bits f x p) ∙ ap (Ieee.of_bits f) (bits_at f x s a v ∙ sym (bits_at f y s a w)) ∙ of_bits-to_bits f y q
@@ -30,6 +32,10 @@ mul_value f (fin s' m e) (fin t' n g) s t a b c d B D v w =
   where
     swap : (p q r u : ℕ) → p * q * (r * u) ≡ p * r * (q * u)
     swap p q r u = simp (mul_assoc, mul_comm, mul_left_comm)
+mul_value f Ieee.nan y s t a b c d B D v w = elim v [ ]
+mul_value f (Ieee.inf _) y s t a b c d B D v w = elim v [ ]
+mul_value f (fin s' m e) Ieee.nan s t a b c d B D v w = elim w [ ]
+mul_value f (fin s' m e) (Ieee.inf _) s t a b c d B D v w = elim w [ ]
 
 -- ---- m times 2 ^ -24, which is 2 ^ 125 smallest values of F32
 module _ (m : ℕ) (M : m < 2 ^ 10) (x : Float) (v : HasValue x false (2 ^ 125) (2 ^ 149)) where

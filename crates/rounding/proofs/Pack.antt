@@ -123,6 +123,8 @@ module _ (k : Kind) (sized : Sized k) (s : Bool) (num den : ℕ) where
 pub odd_round : (k : Kind) (x : Float) (s : Bool) (a c : ℕ) → 0 < c → HasValue x s a c → convert k x ≡ round_to k s a c
 unfolding convert
 odd_round k (fin t m e) s a c C v = round_same k t (m * up e) (down e) a c (down_pos e) C v.1 ∙ ap (λ (b : Bool). round_to k b a c) v.0
+odd_round k lib.Ieee.nan s a c C v = elim v [ ]
+odd_round k (lib.Ieee.inf _) s a c C v = elim v [ ]
 
 pub convert_odd : (k : Kind) (d : ℕ) (s : Bool) (q a l : ℕ) → convert k (odd d s q a l) ≡ round_to k s (q * 2 ^ a) (2 ^ l)
 convert_odd k d s q a l = odd_round k (odd d s q a l) s (q * 2 ^ a) (2 ^ l) (pow_pos l) (odd_sign d s q a l)

@@ -71,3 +71,7 @@ rem_exact k sized (fin s' m e) (fin t' n d) s t u v a b p q pos =
   where
     scaled : (a b d L u : ℕ) → a * L ≡ u * b → a * d * L ≡ u * (b * d)
     scaled a b d L u e = mul_right_comm a d L ∙ ap (λ (z : ℕ). z * d) e ∙ mul_assoc u b d
+rem_exact k sized nan y s t u v a b p q pos = elim a [ ]
+rem_exact k sized (lib.Ieee.inf _) y s t u v a b p q pos = elim a [ ]
+rem_exact k sized (fin s' m e) nan s t u v a b p q pos = elim b [ ]
+rem_exact k sized (fin s' m e) (lib.Ieee.inf _) s t u v a b p q pos = elim b [ ]

@@ -18,12 +18,18 @@ use Rattle.rounding.proofs.Units.{Sized}
 -- ---- what a float's value says of it
 finite_of_lem : (r : Float) (s : Bool) (u l : ℕ) → HasValue r s u l → finite r ≡ true
 finite_of_lem (fin t m e) s u l v = refl
+finite_of_lem nan s u l v = elim v [ ]
+finite_of_lem (inf _) s u l v = elim v [ ]
 
 sign_of_lem : (r : Float) (s : Bool) (u l : ℕ) → HasValue r s u l → sign_of r ≡ s
 sign_of_lem (fin t m e) s u l v = v.0
+sign_of_lem nan s u l v = elim v [ ]
+sign_of_lem (inf _) s u l v = elim v [ ]
 
 pub value_of : (r : Float) (s : Bool) (u l : ℕ) → HasValue r s u l → Same (exact_of r) (ratio (signed_by s u) l)
 value_of (fin t m e) s u l v = by_size t (m * up e) l ∙ ap₂ signed_by v.0 v.1 ∙ sym (by_size s u (down e))
+value_of nan s u l v = elim v [ ]
+value_of (inf _) s u l v = elim v [ ]
 
 abbrev pub held_of : (k : Kind) (r : Float) (s : Bool) (u : ℕ) → HasValue r s u (2 ^ least k) → OfKind k u → Holds k (exact_of r)
 held_of k r s u v o = record { units = signed_by s u; value = value_of r s u (2 ^ least k) v; of_kind = subst (OfKind k) (sym (size_of s u)) o }

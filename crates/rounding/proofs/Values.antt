@@ -67,6 +67,8 @@ lifted (fin t m e) s u a b v = (
   v.0,
   ap (λ (x : ℕ). m * up e * x) (pow-add 2 a b) ∙ sym (mul_assoc (m * up e) (2 ^ a) (2 ^ b)) ∙ ap (λ (x : ℕ). x * 2 ^ b) v.1 ∙ mul_right_comm u (down e) (2 ^ b),
 )
+lifted lib.Ieee.nan s u a b v = elim v [ ]
+lifted (lib.Ieee.inf _) s u a b v = elim v [ ]
 
 single_holds : (u : ℕ) → OfKind half u → OfKind single (u * 2 ^ 125)
 single_holds u o =
@@ -86,6 +88,8 @@ widened_exactly b f =
 -- ---- how large an exact number is
 pub value_size : (r : Float) (s : Bool) (u l : ℕ) → HasValue r s u l → nat_abs (exact_of r).top * l ≡ u * (exact_of r).bottom
 value_size (fin t m e) s u l v = ap (λ (n : ℕ). n * l) (size_of t (m * up e)) ∙ v.1
+value_size lib.Ieee.nan s u l v = elim v [ ]
+value_size (lib.Ieee.inf _) s u l v = elim v [ ]
 
 -- ---- of two numbers that are u / l and v / l in size
 module _ (x y : Exact) (u v l : ℕ) (e : nat_abs x.top * l ≡ u * x.bottom) (f : nat_abs y.top * l ≡ v * y.bottom) where

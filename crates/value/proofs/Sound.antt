@@ -152,7 +152,7 @@ kept_sound (F32 x) h = h
 kept_sound (F16 b) h = kept_half b h
 
 pub kept_type : (s : Scalar) → type_of (kept_scalar s) ≡ type_of s
-kept_type s = elim s [ bool x ↦ refl | AbstractInt x ↦ refl | AbstractFloat x ↦ refl | I32 x ↦ refl | U32 x ↦ refl | F32 x ↦ refl | F16 x ↦ refl ]
+kept_type s = elim s as (λ s. type_of (kept_scalar s) ≡ type_of s) [ bool x ↦ refl | AbstractInt x ↦ refl | AbstractFloat x ↦ refl | I32 x ↦ refl | U32 x ↦ refl | F32 x ↦ refl | F16 x ↦ refl ]
 
 -- it has the same bits
 pub kept_bits : (s : Scalar) → bits_of (kept_scalar s) ≡ bits_of s

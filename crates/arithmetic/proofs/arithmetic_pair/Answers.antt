@@ -7,6 +7,7 @@ use Rattle.value.proofs.Called.{parts}
 use Rattle.arithmetic.specs.Arithmetic.{arithmetic_by}
 use Rattle.arithmetic.proofs.Arms.{no_numbers}
 use borrow.Author.Rules.{rules}
+use borrow.Enum.Refused.{opened}
 use Rattle.arithmetic.proofs.arithmetic_pair.Goals as goal
 
 pub returns-in-AbstractInt : goal.returns-in-AbstractInt
@@ -38,4 +39,4 @@ pub returns-in-F16 : goal.returns-in-F16
 returns-in-F16 c = rw c.in-F16.is c.half_answer.ensures
 
 pub returns-in_default : goal.returns-in_default
-returns-in_default c = let a = c.args in no_numbers a.op a.stage a.p c.in_default.in_default-own.keys7
+returns-in_default c = let a = c.args in no_numbers a.op a.stage a.p (opened c.in_default.in_default-own.keys7)

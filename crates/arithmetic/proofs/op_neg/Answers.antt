@@ -10,6 +10,7 @@ use Rattle.value.specs.Answer.{value}
 use Rattle.value.proofs.Called.{called}
 use Rattle.arithmetic.proofs.Arms.{no_sign}
 use borrow.Author.Rules.{rules}
+use borrow.Enum.Refused.{opened}
 use Rattle.arithmetic.proofs.op_neg.Goals as goal
 
 pub returns-in-AbstractInt : goal.returns-in-AbstractInt
@@ -36,4 +37,4 @@ pub returns-in-F16 : goal.returns-in-F16
 returns-in-F16 c = rw c.in-F16.is (ap (λ (n : ℕ). value (F16 n)) c.neg_half.ensures)
 
 pub returns-in_default : goal.returns-in_default
-returns-in_default c = no_sign c.args.s c.in_default.in_default-own.keys6
+returns-in_default c = no_sign c.args.s (opened c.in_default.in_default-own.keys6)

@@ -28,4 +28,4 @@ pub returns-in-6 : goal.returns-in-6
 returns-in-6 c = rw c.in-6.is c.row_with-in-6.ensures
 
 pub returns-in_default : goal.returns-in_default
-returns-in_default c = c.row_with-in_default.ensures ∙ past_all rows (row no_type 0 false) c.args.ty c.in_default-own.rest
+returns-in_default c = c.row_with-in_default.ensures ∙ past_all rows (row no_type 0 false) c.args.ty c.in_default.in_default-own.rest

@@ -9,6 +9,7 @@ use Rattle.value.specs.Answer.{value}
 use Rattle.bitwise.specs.Bits.{bits_by, truths_by}
 use Rattle.bitwise.proofs.Codes.{signed_arm, no_bits}
 use borrow.Author.Rules.{rules}
+use borrow.Enum.Refused.{opened}
 use Rattle.bitwise.proofs.bits.bits_pair.Goals as goal
 
 pub returns-in-Bool : goal.returns-in-Bool
@@ -34,4 +35,4 @@ pub returns-in-U32 : goal.returns-in-U32
 returns-in-U32 c = rw c.in-U32.is (ap (λ (n : ℕ). value (U32 n)) c.join_u32.ensures)
 
 pub returns-in_default : goal.returns-in_default
-returns-in_default c = let a = c.args in no_bits (truths_by a.op) (bits_by a.op) a.p c.in_default.in_default-own.keys5
+returns-in_default c = let a = c.args in no_bits (truths_by a.op) (bits_by a.op) a.p (opened c.in_default.in_default-own.keys5)

@@ -10,6 +10,7 @@ use Rattle.value.specs.declared.Scalar.TheVariants.{AbstractInt, I32, U32}
 use Rattle.integer.specs.Wrap.{not_z, not_u}
 use Rattle.bitwise.proofs.Codes.{no_integer}
 use borrow.Author.Rules.{rules}
+use borrow.Enum.Refused.{opened}
 use Rattle.bitwise.proofs.bits.op_bitnot.Goals as goal
 
 pub returns-in-AbstractInt : goal.returns-in-AbstractInt
@@ -31,4 +32,4 @@ returns-in-U32 c = rw c.in-U32.is (ap (λ (n : ℕ). value (U32 n)) c.not_u32.en
 
 pub returns-in_default : goal.returns-in_default
 returns-in_default c =
-    no_integer unary (λ x. value (AbstractInt (not_z x))) (λ x. value (I32 (not_z x))) (λ x. value (U32 (not_u w32 x))) c.args.s c.in_default.in_default-own.keys4
+    no_integer unary (λ x. value (AbstractInt (not_z x))) (λ x. value (I32 (not_z x))) (λ x. value (U32 (not_u w32 x))) c.args.s (opened c.in_default.in_default-own.keys4)

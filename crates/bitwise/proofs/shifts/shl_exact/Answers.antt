@@ -7,6 +7,7 @@ use Rattle.bitwise.specs.Shift.{exact_whole, exact_signed, exact_unsigned}
 use Rattle.bitwise.proofs.Codes.{no_integer}
 use Rattle.bitwise.proofs.Counted.{whole_answer, signed_answer, unsigned_answer}
 use borrow.Author.Rules.{rules}
+use borrow.Enum.Refused.{opened}
 use Rattle.bitwise.proofs.shifts.shl_exact.Goals as goal
 
 pub returns-in-AbstractInt : goal.returns-in-AbstractInt
@@ -27,4 +28,4 @@ returns-in-U32 c =
     rw p.1 (unsigned_answer c.args.n p.0.0 c.unsigned_shl.ensures c.shl_u32.ensures)
 
 pub returns-in_default : goal.returns-in_default
-returns-in_default c = let a = c.args in no_integer binary (exact_whole a.n) (exact_signed w32 I32 a.n) (exact_unsigned w32 U32 a.n) a.l c.in_default.in_default-own.keys4
+returns-in_default c = let a = c.args in no_integer binary (exact_whole a.n) (exact_signed w32 I32 a.n) (exact_unsigned w32 U32 a.n) a.l (opened c.in_default.in_default-own.keys4)

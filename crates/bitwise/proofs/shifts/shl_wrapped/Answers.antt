@@ -11,6 +11,7 @@ use Rattle.integer.specs.Wrap.{wrap_s}
 use Rattle.bitwise.specs.Shift.{reduced, wrapped_signed, wrapped_unsigned}
 use Rattle.bitwise.proofs.Codes.{no_integer}
 use borrow.Author.Rules.{rules}
+use borrow.Enum.Refused.{opened}
 use Rattle.bitwise.proofs.shifts.shl_wrapped.Goals as goal
 
 pub returns-in-AbstractInt : goal.returns-in-AbstractInt
@@ -34,4 +35,4 @@ pub returns-in_default : goal.returns-in_default
 returns-in_default c =
     let a = c.args in
     let r = reduced w32 a.n in
-    no_integer binary (wrapped_signed w64 AbstractInt a.n) (wrapped_signed w32 I32 r) (wrapped_unsigned w32 U32 r) a.l c.in_default.in_default-own.keys4
+    no_integer binary (wrapped_signed w64 AbstractInt a.n) (wrapped_signed w32 I32 r) (wrapped_unsigned w32 U32 r) a.l (opened c.in_default.in_default-own.keys4)

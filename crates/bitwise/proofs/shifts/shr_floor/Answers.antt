@@ -12,6 +12,7 @@ use Rattle.types.proofs.Choice.{picked, passed}
 use Rattle.bitwise.specs.Shift.{floor_signed, floor_unsigned, reduced}
 use Rattle.bitwise.proofs.Counted.{either_way, limited_floor, no_floor}
 use borrow.Author.Rules.{rules}
+use borrow.Enum.Refused.{opened}
 use Rattle.bitwise.proofs.shifts.shr_floor.Goals as goal
 
 pub returns-then-strict-n : goal.returns-then-strict-n
@@ -51,4 +52,4 @@ returns-else-strict-n-2 c =
     rw p.1 (limited_floor w32 floor_unsigned U32 a.n p.0.0 a.strict (e ∙ passed _ _ c.if-strict-n-2.false))
 
 pub returns-in_default : goal.returns-in_default
-returns-in_default c = no_floor c.args.strict c.args.l c.args.n c.in_default.in_default-own.keys4
+returns-in_default c = no_floor c.args.strict c.args.l c.args.n (opened c.in_default.in_default-own.keys4)

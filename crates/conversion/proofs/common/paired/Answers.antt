@@ -5,13 +5,14 @@ use Rattle.value.specs.declared.Pair.TheVariants.{AbstractInt, I32}
 use Rattle.value.proofs.Called.{parts}
 use Rattle.conversion.proofs.Pairing.{unlike_of}
 use borrow.Author.Rules.{rules}
+use borrow.Enum.Refused.{opened}
 use Rattle.conversion.proofs.common.paired.Goals as goal
 
 pub returns-in-Bool-r : goal.returns-in-Bool-r
 returns-in-Bool-r c = rw (c.in-Bool-r.is, c.in-Bool.is)
 
 pub returns-in_default : goal.returns-in_default
-returns-in_default c = unlike_of c.args.r c.in-Bool.is c.in_default.in_default-own.keys2
+returns-in_default c = unlike_of c.args.r c.in-Bool.is (opened c.in_default.in_default-own.keys2)
 
 pub returns-in-AbstractInt-r : goal.returns-in-AbstractInt-r
 returns-in-AbstractInt-r c =

@@ -13,11 +13,11 @@ returns-then-x c = nan_half c.args.x c.if-x.true
 
 pub narrow_bits-requires : goal.narrow_bits-requires
 narrow_bits-requires c =
-    (lit≤ tt, lit≤ tt, lit≤ tt, lit≤ tt, lit≤ tt, lit≤ tt, omega arith, real binary32 c.args.x (subst T (sym c.well_formed_lem.0.1) tt) c.if-x.false c.f32_bits.ensures)
+    (lit≤ tt, lit≤ tt, lit≤ tt, lit≤ tt, lit≤ tt, lit≤ tt, omega arith, real binary32 c.args.x (subst T (sym c.well_formed.0.1) tt) c.if-x.false c.f32_bits.ensures)
 
 pub returns : goal.returns
 returns c =
-    narrowed binary32 half c.args.x (subst T (sym c.well_formed_lem.0.1) tt) c.f32_bits.ensures c.narrow_bits.ensures
+    narrowed binary32 half c.args.x (subst T (sym c.well_formed.0.1) tt) c.f32_bits.ensures c.narrow_bits.ensures
 
 pub overflow_cast-result : goal.overflow_cast-result
 overflow_cast-result c = record { fits = rw (returns c) (bits_lt half half_sized c.args.x) }

@@ -14,16 +14,15 @@ returns-then-x c = zero_by_zero binary32 ∙ sym (nan_narrowed single c.args.x c
 
 pub narrow_bits-requires : goal.narrow_bits-requires
 narrow_bits-requires c =
-    (lit≤ tt, lit≤ tt, lit≤ tt, lit≤ tt, lit≤ tt, lit≤ tt, omega arith, real binary64 c.args.x (subst T (sym c.well_formed_lem.0.1) tt) c.if-x.false c.f64_bits.ensures)
-
-bits : (c : tie.After-narrow-bits) → c.narrow-bits.result ≡ to_bits single (convert single c.before.before.before.args.x)
-bits c =
-    let s = c.before.before.before in narrowed binary64 single s.args.x (subst T (sym s.well_formed_lem.0.1) tt) c.before.f64-bits.ensures c.narrow-bits.ensures
+    (lit≤ tt, lit≤ tt, lit≤ tt, lit≤ tt, lit≤ tt, lit≤ tt, omega arith, real binary64 c.args.x (subst T (sym c.well_formed.0.1) tt) c.if-x.false c.f64_bits.ensures)
 
 pub overflow_cast-narrow_bits : goal.overflow_cast-narrow_bits
-overflow_cast-narrow_bits c = record { fits = rw (bits c) (bits_lt single single_sized c.args.x) }
+overflow_cast-narrow_bits c =
+    let bits : c.narrow_bits.result ≡ to_bits single (convert single c.args.x) = narrowed binary64 single c.args.x (subst T (sym c.well_formed.0.1) tt) c.f64_bits.ensures c.narrow_bits.ensures in
+    record { fits = rw bits (bits_lt single single_sized c.args.x) }
 
 pub returns : goal.returns
 returns c =
+    let bits : c.narrow_bits.result ≡ to_bits single (convert single c.args.x) = narrowed binary64 single c.args.x (subst T (sym c.well_formed.0.1) tt) c.f64_bits.ensures c.narrow_bits.ensures in
     let x = c.args.x in
-    c.f32_of_bits.ensures ∙ ap (of_bits single) (bits c) ∙ bits_back binary32 (convert single x) (convert_fits binary32 x)
+    c.f32_of_bits.ensures ∙ ap (of_bits single) bits ∙ bits_back binary32 (convert single x) (convert_fits binary32 x)

@@ -11,11 +11,12 @@ use Rattle.rounding.proofs.narrow.i64_to_f32.Goals as goal
 pub whole_bits-requires : goal.whole_bits-requires
 whole_bits-requires c = (integer_most c.args.n c.ranges.n c.size_i64.ensures, lit≤ tt, lit≤ tt, lit≤ tt, lit≤ tt)
 
-bits : (c : tie.After-whole-bits) → c.whole-bits.result ≡ to_bits single (of_integer single c.before.before.args.n)
-bits c = integer_bits single c.before.before.args.n c.before.before.ranges.n c.before.size_i64.ensures c.whole-bits.ensures
-
 pub overflow_cast-whole_bits : goal.overflow_cast-whole_bits
-overflow_cast-whole_bits c = record { fits = rw (bits c) (integer_lt single single_sized c.args.n) }
+overflow_cast-whole_bits c =
+    let bits : c.whole_bits.result ≡ to_bits single (of_integer single c.args.n) = integer_bits single c.args.n c.ranges.n c.size_i64.ensures c.whole_bits.ensures in
+    record { fits = rw bits (integer_lt single single_sized c.args.n) }
 
 pub returns : goal.returns
-returns c = let n = c.args.n in c.f32_of_bits.ensures ∙ ap (of_bits single) (bits c) ∙ bits_back binary32 (of_integer single n) (integer_fits binary32 n)
+returns c =
+    let bits : c.whole_bits.result ≡ to_bits single (of_integer single c.args.n) = integer_bits single c.args.n c.ranges.n c.size_i64.ensures c.whole_bits.ensures in
+    let n = c.args.n in c.f32_of_bits.ensures ∙ ap (of_bits single) bits ∙ bits_back binary32 (of_integer single n) (integer_fits binary32 n)

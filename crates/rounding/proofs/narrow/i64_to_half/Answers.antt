@@ -9,11 +9,12 @@ use Rattle.rounding.proofs.narrow.i64_to_half.Goals as goal
 pub whole_bits-requires : goal.whole_bits-requires
 whole_bits-requires c = (integer_most c.args.n c.ranges.n c.size_i64.ensures, lit≤ tt, lit≤ tt, lit≤ tt, lit≤ tt)
 
-bits : (c : tie.After-whole-bits) → c.whole-bits.result ≡ to_bits half (of_integer half c.before.before.args.n)
-bits c = integer_bits half c.before.before.args.n c.before.before.ranges.n c.before.size_i64.ensures c.whole-bits.ensures
-
 pub overflow_cast-result : goal.overflow_cast-result
-overflow_cast-result c = record { fits = rw (bits c) (integer_lt half half_sized c.args.n) }
+overflow_cast-result c =
+    let bits : c.whole_bits.result ≡ to_bits half (of_integer half c.args.n) = integer_bits half c.args.n c.ranges.n c.size_i64.ensures c.whole_bits.ensures in
+    record { fits = rw bits (integer_lt half half_sized c.args.n) }
 
 pub returns : goal.returns
-returns c = bits c
+returns c =
+    let bits : c.whole_bits.result ≡ to_bits half (of_integer half c.args.n) = integer_bits half c.args.n c.ranges.n c.size_i64.ensures c.whole_bits.ensures in
+    bits

@@ -8,11 +8,8 @@ use Rattle.rounding.proofs.Normal.{zeros_lt, top_is, whole_packed, kept_max, not
 use Rattle.rounding.proofs.narrow.whole_size.Goals as goal
 
 -- n is not 0
-some : (c : tie.Else1) → 0 < c.before.args.n
-some c = positive c.before.args.n c.if1.false
-  where
-    positive : (n : ℕ) → (n ≡ 0 → ⊥) → 0 < n
-    positive n h = omega arith
+some : (n : ℕ) → (n ≡ 0 → ⊥) → 0 < n
+some n h = omega arith
 
 pub returns-then-n-eq0 : goal.returns-then-n-eq0
 returns-then-n-eq0 c =
@@ -23,38 +20,34 @@ pub overflow_cast-zeros : goal.overflow_cast-zeros
 overflow_cast-zeros c = omega (arith, leading_le 64 c.args.n)
 
 pub overflow_shl-top : goal.overflow_shl-top
-overflow_shl-top c = zeros_lt c.args.n (some c) c.ranges.n.fits
+overflow_shl-top c = zeros_lt c.args.n (some c.args.n c.if-n-eq0.false) c.ranges.n.fits
 
 pub overflow_sub-result : goal.overflow_sub-result
-overflow_sub-result c = omega (arith, zeros_lt c.args.n (some c) c.ranges.n.fits)
-
-rounded : (c : tie.After-round-whole)
-    → let g = c.before.before.args in c.round_whole.result ≡ closest (g.n * 2 ^ count_leading_zeros 64 g.n / 2) (2 ^ (63 - g.digits))
-rounded c =
-    let g = c.before.before.args in
-    c.round_whole.ensures ∙ ap (λ (x : ℕ). closest (x / 2) (2 ^ (63 - g.digits))) (top_is g.n (some c.before) c.before.before.ranges.n.fits)
-
-product : (c : tie.After-weight)
-    → let g = c.before.before.before.args in (62 + g.reach - count_leading_zeros 64 g.n) * c.weight.result ≤ 2 ^ 31
-product c =
-    let s = c.before.before.before in
-    let x = 62 + s.args.reach - count_leading_zeros 64 s.args.n in
-    subst (λ (w : ℕ). x * w ≤ 2 ^ 31) (sym c.weight.ensures) (product_lt x s.args.digits (omega arith) s.requires.2)
+overflow_sub-result c = omega (arith, zeros_lt c.args.n (some c.args.n c.if-n-eq0.false) c.ranges.n.fits)
 
 pub overflow_mul-result : goal.overflow_mul-result
-overflow_mul-result c = omega (arith, product c)
+overflow_mul-result c =
+    let x = 62 + c.args.reach - count_leading_zeros 64 c.args.n in
+    let product : x * c.weight.result ≤ 2 ^ 31 = subst (λ (w : ℕ). x * w ≤ 2 ^ 31) (sym c.weight.ensures) (product_lt x c.args.digits (omega arith) c.requires.2) in
+    omega (arith, product)
 
 pub overflow_add-result-2 : goal.overflow_add-result-2
 overflow_add-result-2 c =
+    let x = 62 + c.args.reach - count_leading_zeros 64 c.args.n in
+    let product : x * c.weight.result ≤ 2 ^ 31 = subst (λ (w : ℕ). x * w ≤ 2 ^ 31) (sym c.weight.ensures) (product_lt x c.args.digits (omega arith) c.requires.2) in
+    let rounded : c.round_whole-q.result ≡ closest (c.args.n * 2 ^ count_leading_zeros 64 c.args.n / 2) (2 ^ (63 - c.args.digits)) =
+        c.round_whole-q.ensures ∙ ap (λ (x : ℕ). closest (x / 2) (2 ^ (63 - c.args.digits))) (top_is c.args.n (some c.args.n c.if-n-eq0.false) c.ranges.n.fits) in
     omega (
       arith,
-      product c,
-      rounded c,
-      kept_max c.args.n (some c) c.ranges.n.fits c.requires.0 c.args.digits c.requires.1 c.requires.2,
+      product,
+      rounded,
+      kept_max c.args.n (some c.args.n c.if-n-eq0.false) c.ranges.n.fits c.requires.0 c.args.digits c.requires.1 c.requires.2,
     )
 
 pub returns : goal.returns
 returns c =
+    let rounded : c.round_whole-q.result ≡ closest (c.args.n * 2 ^ count_leading_zeros 64 c.args.n / 2) (2 ^ (63 - c.args.digits)) =
+        c.round_whole-q.ensures ∙ ap (λ (x : ℕ). closest (x / 2) (2 ^ (63 - c.args.digits))) (top_is c.args.n (some c.args.n c.if-n-eq0.false) c.ranges.n.fits) in
     let g = c.args in
-    (λ i. (62 + g.reach - count_leading_zeros 64 g.n) * c.weight.ensures i + rounded c i)
-    ∙ whole_packed g.n (some c) c.ranges.n.fits c.requires.0 g.digits c.requires.1 c.requires.2 g.reach c.requires.3
+    (λ i. (62 + g.reach - count_leading_zeros 64 g.n) * c.weight.ensures i + rounded i)
+    ∙ whole_packed g.n (some c.args.n c.if-n-eq0.false) c.ranges.n.fits c.requires.0 g.digits c.requires.1 c.requires.2 g.reach c.requires.3

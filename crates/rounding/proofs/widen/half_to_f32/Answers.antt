@@ -9,11 +9,8 @@ use Rattle.rounding.proofs.Range.{inside, beyond}
 use Rattle.rounding.proofs.Fields.{read, fields_low, fields_inf, fields_nan}
 use Rattle.rounding.proofs.widen.half_to_f32.Goals as goal
 
-infinite : (c : tie.Else3) → of_bits half c.before.before.before.args.h ≡ inf (leb (2 ^ 15) c.before.before.before.args.h)
-infinite c =
-    let h = c.before.before.before.args.h in
-    let top = beyond _ (h % 2 ^ 15) _ c.before.before.if1.false (omega arith) in
-    read half h ∙ fields_inf half (leb (2 ^ 15) h) (h % 2 ^ 15 / 2 ^ 10) (h % 2 ^ 10) (omega (arith, top)) (omega (arith, top))
+infinite : (h : ℕ) → (h % 2 ^ 15 ≡ 31744) → of_bits half h ≡ inf (leb (2 ^ 15) h)
+infinite h top = read half h ∙ fields_inf half (leb (2 ^ 15) h) (h % 2 ^ 15 / 2 ^ 10) (h % 2 ^ 10) (omega (arith, top)) (omega (arith, top))
 
 pub normal-requires : goal.normal-requires
 normal-requires c = let w = inside _ (c.args.h % 2 ^ 15) _ c.if-size.true in omega (arith, w.0, w.1)
@@ -31,8 +28,8 @@ returns-then-size-gt31744 c =
 
 pub returns-then-neg : goal.returns-then-neg
 unfolding Ieee.div Ieee.neg Ieee.of_bits
-returns-then-neg c = ap inf (sym c.if-neg.true-raw) ∙ sym (infinite c)
+returns-then-neg c = ap inf (sym c.if-neg.true-raw) ∙ sym (infinite c.args.h (omega (arith, beyond _ (c.args.h % 2 ^ 15) _ c.if-size.false (omega arith))))
 
 pub returns : goal.returns
 unfolding Ieee.div Ieee.of_bits
-returns c = ap inf (sym c.if-neg.false-raw) ∙ sym (infinite c)
+returns c = ap inf (sym c.if-neg.false-raw) ∙ sym (infinite c.args.h (omega (arith, beyond _ (c.args.h % 2 ^ 15) _ c.if-size.false (omega arith))))

@@ -7,18 +7,16 @@ use Rattle.value.proofs.pattern.bits_of.Goals as goal
 
 pub returns-in-AbstractInt : goal.returns-in-AbstractInt
 returns-in-AbstractInt c =
-    let p = c.s-in-AbstractInt-1.given in
-    let g : SFits w64 p.0.0 = search rules in
-    rw p.1 (rw (to_z-of_z w64 _ g) at c.bits_i64.ensures)
+    let g : SFits w64 c.in-AbstractInt.x = search rules in
+    rw c.in-AbstractInt.is (rw (to_z-of_z w64 _ g) at c.bits_i64.ensures)
 
 pub returns-in-AbstractFloat : goal.returns-in-AbstractFloat
 returns-in-AbstractFloat c = rw c.in-AbstractFloat.is c.f64_bits.ensures
 
 pub returns-in-I32 : goal.returns-in-I32
 returns-in-I32 c =
-    let p = c.s-in-I32-1.given in
-    let g : SFits w32 p.0.0 = search rules in
-    rw p.1 (rw (to_z-of_z w32 _ g) at c.bits_i32.ensures)
+    let g : SFits w32 c.in-I32.x = search rules in
+    rw c.in-I32.is (rw (to_z-of_z w32 _ g) at c.bits_i32.ensures)
 
 pub returns-in-F32 : goal.returns-in-F32
 returns-in-F32 c = rw c.in-F32.is c.f32_bits.ensures

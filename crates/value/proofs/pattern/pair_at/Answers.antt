@@ -12,28 +12,28 @@ use borrow.Author.Rules.{rules}
 use Rattle.value.proofs.pattern.pair_at.Goals as goal
 
 pub overflow_cast-l : goal.overflow_cast-l
-overflow_cast-l c = fits_at 3 w32 c.requires.0 c.in-3.is refl
+overflow_cast-l c = fits_at 3 w32 c.requires.narrow c.in-3.is refl
 
 pub overflow_cast-r : goal.overflow_cast-r
-overflow_cast-r c = fits_at 3 w32 c.requires.1 c.in-3.is refl
+overflow_cast-r c = fits_at 3 w32 c.requires.narrow_2 c.in-3.is refl
 
 pub overflow_cast-result : goal.overflow_cast-result
-overflow_cast-result c = fits_at 4 w32 c.requires.0 c.in-4.is refl
+overflow_cast-result c = fits_at 4 w32 c.requires.narrow c.in-4.is refl
 
 pub overflow_cast-result-in-4 : goal.overflow_cast-result-in-4
-overflow_cast-result-in-4 c = fits_at 4 w32 c.requires.1 c.in-4.is refl
+overflow_cast-result-in-4 c = fits_at 4 w32 c.requires.narrow_2 c.in-4.is refl
 
 pub overflow_cast-l-in-5 : goal.overflow_cast-l-in-5
-overflow_cast-l-in-5 c = fits_at 5 w32 c.requires.0 c.in-5.is refl
+overflow_cast-l-in-5 c = fits_at 5 w32 c.requires.narrow c.in-5.is refl
 
 pub overflow_cast-r-in-5 : goal.overflow_cast-r-in-5
-overflow_cast-r-in-5 c = fits_at 5 w32 c.requires.1 c.in-5.is refl
+overflow_cast-r-in-5 c = fits_at 5 w32 c.requires.narrow_2 c.in-5.is refl
 
 pub overflow_cast-l-in-6 : goal.overflow_cast-l-in-6
-overflow_cast-l-in-6 c = fits_at 6 w16 c.requires.0 c.in-6.is refl
+overflow_cast-l-in-6 c = fits_at 6 w16 c.requires.narrow c.in-6.is refl
 
 pub overflow_cast-r-in-6 : goal.overflow_cast-r-in-6
-overflow_cast-r-in-6 c = fits_at 6 w16 c.requires.1 c.in-6.is refl
+overflow_cast-r-in-6 c = fits_at 6 w16 c.requires.narrow_2 c.in-6.is refl
 
 pub returns-in-0 : goal.returns-in-0
 returns-in-0 c = rw c.in-0.is
