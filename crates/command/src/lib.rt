@@ -12,12 +12,11 @@ ghost use Rattle.text.specs.Text.{Put};
 ghost use Rattle.command.specs.Listing.{listing_of, printed};
 
 use std::fs;
-use std::io::Read;
 use std::rt::Files;
 
 // How many bytes of a file were read, and whether reading went well.
 #[derive(Clone, Copy)]
-struct Loaded {
+struct Read {
     n: usize,
     whole: bool,
 }
@@ -39,10 +38,10 @@ pub fn listing(out: &mut [u8], line: &[u8], readable: bool, bytes: &[u8]) -> usi
 }
 
 // Reads the file's bytes to the start of a buffer, as many as it holds. A name that is no UTF-8 names no file that std can open.
-fn load<R: Files>(rt: &R, path: &[u8], bytes: &mut [u8]) -> Loaded
+fn load<R: Files>(rt: &R, path: &[u8], bytes: &mut [u8]) -> Read
     ensures { result.n ≤ length bytes.new }
 {
-    let none = Loaded { n: 0, whole: false };
+    let none = Read { n: 0, whole: false };
     let Ok(path) = str::from_utf8(path) else {
         return none;
     };
@@ -53,8 +52,8 @@ fn load<R: Files>(rt: &R, path: &[u8], bytes: &mut [u8]) -> Loaded
         return none;
     };
     let mut one = [0u8; 1];
-    let whole = file.read(&mut one).is_ok();
-    Loaded { n, whole }
+    let whole = reading::fill(&mut file, &mut one).is_ok();
+    Read { n, whole }
 }
 
 // Writes the text of a command, which is at most as long as this buffer.
