@@ -11,7 +11,8 @@ ghost use Rattle.io.specs.Counts.{IsPrefixLen};
 ghost use Rattle.text.specs.Text.{Put};
 ghost use Rattle.command.specs.Listing.{listing_of, printed};
 
-use libc::STDOUT_FILENO;
+use std::fs;
+use std::rt::Files;
 
 // How many bytes of a file were read, and whether reading went well.
 #[derive(Clone, Copy)]
@@ -36,36 +37,43 @@ pub fn listing(out: &mut [u8], line: &[u8], readable: bool, bytes: &[u8]) -> usi
     whole::whole(out, line, readable, bytes)
 }
 
-// Reads the file's bytes to the start of a buffer, as many as it holds.
-fn load(path: &[u8], bytes: &mut [u8]) -> Read
+// Reads the file's bytes to the start of a buffer, as many as it holds. A name that is no UTF-8 names no file that std can open.
+fn load<R: Files>(rt: &R, path: &[u8], bytes: &mut [u8]) -> Read
     ensures { result.n ≤ length bytes.new }
 {
-    let fd = os::open_read(path);
-    if fd < 0 {
-        return Read { n: 0, whole: false };
-    }
-    let n = io::read_full(fd, bytes);
+    let none = Read { n: 0, whole: false };
+    let Ok(path) = str::from_utf8(path) else {
+        return none;
+    };
+    let Ok(mut file) = fs::open(rt, path) else {
+        return none;
+    };
+    let Ok(n) = reading::fill(&mut file, bytes) else {
+        return none;
+    };
     let mut one = [0u8; 1];
-    let more = libc::read(fd, &mut one);
-    libc::close(fd);
-    Read {
-        n,
-        whole: more >= 0,
-    }
+    let whole = reading::fill(&mut file, &mut one).is_ok();
+    Read { n, whole }
 }
 
 // Writes the text of a command, which is at most as long as this buffer.
-fn print(out: &mut [u8; 4194304], line: &[u8], readable: bool, bytes: &[u8]) {
+fn print<R: Print>(
+    rt: &R,
+    out: &mut [u8; 4194304],
+    line: &[u8],
+    readable: bool,
+    bytes: &[u8],
+) -> std::io::Result<()> {
     let n = listing(out, line, readable, bytes);
     let text = &out[..];
-    io::write_all(STDOUT_FILENO, &text[0..n]);
+    rt.write_all(&text[0..n])
 }
 
 // Runs the command: reads its file, of which a byte past the longest sheet is enough, and writes its text.
-pub fn run(line: &[u8]) {
+pub fn run<R: Files + Print>(rt: &R, line: &[u8]) -> std::io::Result<()> {
     let mut bytes = [0u8; 16385];
-    let read = load(asked::sheet_word(line), &mut bytes);
+    let read = load(rt, asked::sheet_word(line), &mut bytes);
     let n = read.n;
     let mut out = [0u8; 4194304];
-    print(&mut out, line, read.whole, &bytes[0..n]);
+    print(rt, &mut out, line, read.whole, &bytes[0..n])
 }

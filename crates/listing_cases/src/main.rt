@@ -4,7 +4,8 @@
 
 ghost use Rattle.std.specs.Prelude.{◌≤◌, length};
 
-use libc::{STDIN_FILENO, STDOUT_FILENO};
+use std::io;
+use std::rt::Files;
 
 // Where the line ends that starts at a place.
 fn line_end(text: &[u8], from: usize) -> usize
@@ -34,27 +35,28 @@ fn split(line: &[u8], words: &mut [u8]) -> usize
 }
 
 // One command: its line, and what it prints.
-fn command(line: &[u8]) {
-    io::write_all(STDOUT_FILENO, b"$ listing ");
-    io::write_all(STDOUT_FILENO, line);
-    io::write_all(STDOUT_FILENO, b"\n");
-    let mut words = io::buffer();
+fn command<R: Files + Print>(rt: &R, line: &[u8]) -> io::Result<()> {
+    rt.write_all(b"$ listing ")?;
+    rt.write_all(line)?;
+    rt.write_all(b"\n")?;
+    let mut words = [0u8; 4096];
     let n = split(line, &mut words);
-    command::run(&words[0..n]);
+    command::run(rt, &words[0..n])
 }
 
 // Each line of a text.
-fn script(text: &[u8]) {
+fn script<R: Files + Print>(rt: &R, text: &[u8]) -> io::Result<()> {
     let mut at = 0;
     while at < text.len() {
         let e = line_end(text, at);
-        command(&text[at..e]);
+        command(rt, &text[at..e])?;
         at = e + 1;
     }
+    Ok(())
 }
 
-fn main() {
-    let mut text = io::large_buffer();
-    let n = io::read_full(STDIN_FILENO, &mut text);
-    script(&text[..n]);
+fn main(rt: HostRuntime) -> io::Result<()> {
+    let mut text = [0u8; 65536];
+    let n = reading::fill(&mut rt.stdin(), &mut text)?;
+    script(&rt, &text[..n])
 }

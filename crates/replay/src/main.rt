@@ -5,7 +5,9 @@
 mod changes;
 mod sheets;
 
-use libc::STDOUT_FILENO;
+use std::io::Read;
+use std::rt::{Env, Files};
+use std::{fs, io};
 
 // What the records of a list ask.
 #[derive(Clone, Copy)]
@@ -39,40 +41,38 @@ fn is_right(kind: Kind, case: &[u8]) -> bool {
 }
 
 // The length of the next record: the kind fixes it, or it stands before the record. At the list's end that is 0.
-fn size(fd: i32, kind: Kind) -> u64 {
+fn size<F: Read>(file: &mut F, kind: Kind) -> io::Result<u64> {
     let mut two = [0u8; 2];
     let mut four = [0u8; 4];
     match kind {
-        Kind::Rounding => 24,
-        Kind::Slots => 137,
+        Kind::Rounding => Ok(24),
+        Kind::Slots => Ok(137),
         Kind::Scalars | Kind::Shapes => {
-            io::read_full(fd, &mut two);
-            low::word(&two, 0) as u64
+            reading::fill(file, &mut two)?;
+            Ok(low::word(&two, 0) as u64)
         }
         Kind::Sheets | Kind::Changes => {
-            io::read_full(fd, &mut four);
-            low::word(&four, 0) as u64
+            reading::fill(file, &mut four)?;
+            Ok(low::word(&four, 0) as u64)
         }
     }
 }
 
 // A word and a number on a line.
-fn line(what: &[u8], n: u64) {
-    io::write_all(STDOUT_FILENO, what);
-    io::print_decimal(STDOUT_FILENO, n);
-    io::write_all(STDOUT_FILENO, b"\n");
+fn line<P: Print>(rt: &P, what: &str, n: u64) -> io::Result<()> {
+    println!(rt; "{what}{n}")
 }
 
 // One case more. The first few wrong ones are named by their number in the list, counted from 0.
-fn counted(t: Tally, right: bool) -> Tally {
+fn counted<P: Print>(rt: &P, t: Tally, right: bool) -> io::Result<Tally> {
     if !right & (std::num::wrapping_sub_u64(t.cases, t.right) < 5) {
-        line(b"wrong ", t.cases);
+        line(rt, "wrong ", t.cases)?;
     }
-    Tally {
+    Ok(Tally {
         cases: std::num::wrapping_add_u64(t.cases, 1),
         right: std::num::wrapping_add_u64(t.right, right as u64),
         go: true,
-    }
+    })
 }
 
 // No case is left.
@@ -85,58 +85,78 @@ fn ended(t: Tally) -> Tally {
 }
 
 // The next record, counted. One that buf cannot hold ends the list.
-fn turn(fd: i32, kind: Kind, buf: &mut [u8], t: Tally) -> Tally {
-    let n = size(fd, kind);
+fn turn<P: Print, F: Read>(
+    rt: &P,
+    file: &mut F,
+    kind: Kind,
+    buf: &mut [u8],
+    t: Tally,
+) -> io::Result<Tally> {
+    let n = size(file, kind)?;
     if (buf.len() as u64) < n {
-        return ended(t);
+        return Ok(ended(t));
     }
     let e = n as usize;
-    let got = io::read_full(fd, &mut buf[0..e]);
+    let got = reading::fill(file, &mut buf[0..e])?;
     if got == 0 {
-        return ended(t);
+        return Ok(ended(t));
     }
-    counted(t, is_right(kind, &buf[0..got]))
+    counted(rt, t, is_right(kind, &buf[0..got]))
 }
 
 // Every record of a list.
-fn run(fd: i32, kind: Kind) -> Tally {
-    let mut buf = io::large_buffer();
-    let mut t = Tally {
-        cases: 0,
-        right: 0,
-        go: true,
-    };
+fn run<P: Print, F: Read>(rt: &P, file: &mut F, kind: Kind) -> io::Result<Tally> {
+    let mut buf = [0u8; 65536];
+    let mut t = none();
     let mut turns = u64::MAX;
     while 0 < turns {
-        t = turn(fd, kind, &mut buf, t);
+        t = turn(rt, file, kind, &mut buf, t)?;
         if !t.go {
-            return t;
+            return Ok(t);
         }
         turns -= 1;
     }
-    t
+    Ok(t)
 }
 
-// The list that argument i names. One that cannot be read has no cases.
-fn replay(i: usize, kind: Kind) {
-    let mut path = io::buffer();
-    let n = os::arg(i, &mut path);
-    io::write_all(STDOUT_FILENO, &path[..n]);
-    io::write_all(STDOUT_FILENO, b"\n");
-    let fd = os::open_read(&path[..n]);
-    let t = run(fd, kind);
-    libc::close(fd);
-    line(b"cases ", t.cases);
-    line(b"right ", t.right);
+// No case so far.
+fn none() -> Tally {
+    Tally {
+        cases: 0,
+        right: 0,
+        go: true,
+    }
+}
+
+// The list of a name. One that cannot be opened has no cases, nor has a name that is no UTF-8.
+fn list<R: Files + Print>(rt: &R, path: &[u8], kind: Kind) -> io::Result<Tally> {
+    let Ok(path) = str::from_utf8(path) else {
+        return Ok(none());
+    };
+    let Ok(mut file) = fs::open(rt, path) else {
+        return Ok(none());
+    };
+    run(rt, &mut file, kind)
+}
+
+// The list that argument i names.
+fn replay<R: Env + Files + Print>(rt: &R, i: usize, kind: Kind) -> io::Result<()> {
+    let mut path = [0u8; 4096];
+    let n = rt.arg(i, &mut path).unwrap_or(0);
+    rt.write_all(&path[..n])?;
+    rt.write_all(b"\n")?;
+    let t = list(rt, &path[..n], kind)?;
+    line(rt, "cases ", t.cases)?;
+    line(rt, "right ", t.right)
 }
 
 // The lists in the order of the arguments.
-fn main() {
-    replay(1, Kind::Rounding);
-    replay(2, Kind::Rounding);
-    replay(3, Kind::Scalars);
-    replay(4, Kind::Shapes);
-    replay(5, Kind::Sheets);
-    replay(6, Kind::Slots);
-    replay(7, Kind::Changes);
+fn main(rt: HostRuntime) -> io::Result<()> {
+    replay(&rt, 1, Kind::Rounding)?;
+    replay(&rt, 2, Kind::Rounding)?;
+    replay(&rt, 3, Kind::Scalars)?;
+    replay(&rt, 4, Kind::Shapes)?;
+    replay(&rt, 5, Kind::Sheets)?;
+    replay(&rt, 6, Kind::Slots)?;
+    replay(&rt, 7, Kind::Changes)
 }

@@ -1,8 +1,5 @@
--- `listing_cases::split` meets its contract, and its loop ends.
-use mathlib.Core.Path.{◌≡◌}
-use lib.ListN.{length, length-set}
-use native.Mathlib.Omega.{arith}
-use Prim.Native.Nat.{◌-◌, ◌≤◌}
+-- `listing_cases::split` keeps within its buffer, and its loop ends.
+use Rattle.std.proofs.Common.{length, ◌≡◌, ◌-◌, ◌≤◌}
 use Rattle.listing_cases.proofs.split.Given as goal
 
 abbrev pub invariant-loop-i : goal.invariant-loop-i

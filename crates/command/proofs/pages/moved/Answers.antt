@@ -18,8 +18,7 @@ text-requires c =
     omega (arith, moved.ensures.1.0.1, moved.ensures.1.1)
 
 pub returns : goal.returns
-returns c =
-    (
-      shown_as c.text.ensures (page_text c.moved-n.ensures.0 ∙ moved_told _ _ _ _ _ c.in-Done.is c.if-not-verbose.false-raw),
-      omega (arith, c.text.ensures.next, c.moved-n.ensures.1.0.1, c.moved-n.ensures.1.1),
-    )
+returns c = (
+  shown_as c.text.ensures (page_text c.moved-n.ensures.0 ∙ moved_told _ _ _ _ _ c.in-Done.is c.if-not-verbose.false-raw),
+  omega (arith, c.text.ensures.next, c.moved-n.ensures.1.0.1, c.moved-n.ensures.1.1),
+)

@@ -17,15 +17,13 @@ text-requires-in-Refused c =
     omega (arith, refuse.ensures.1.0.1, refuse.ensures.1.1)
 
 pub returns-in-Done : goal.returns-in-Done
-returns-in-Done c =
-    (
-      shown_as c.text.ensures (page_text c.list-n.ensures.put ∙ page_done _ _ _ c.in-Done.is),
-      omega (arith, c.text.ensures.next, c.list-n.ensures.prefix_len.0.1, c.list-n.ensures.prefix_len.1),
-    )
+returns-in-Done c = (
+  shown_as c.text.ensures (page_text c.list-n.ensures.put ∙ page_done _ _ _ c.in-Done.is),
+  omega (arith, c.text.ensures.next, c.list-n.ensures.prefix_len.0.1, c.list-n.ensures.prefix_len.1),
+)
 
 pub returns-in-Refused : goal.returns-in-Refused
-returns-in-Refused c =
-    (
-      shown_as c.text-in-Refused.ensures (page_text c.refuse-n.ensures.put ∙ page_refused _ _ _ _ c.in-Refused.is),
-      omega (arith, c.text-in-Refused.ensures.next, c.refuse-n.ensures.prefix_len.0.1, c.refuse-n.ensures.prefix_len.1),
-    )
+returns-in-Refused c = (
+  shown_as c.text-in-Refused.ensures (page_text c.refuse-n.ensures.put ∙ page_refused _ _ _ _ c.in-Refused.is),
+  omega (arith, c.text-in-Refused.ensures.next, c.refuse-n.ensures.prefix_len.0.1, c.refuse-n.ensures.prefix_len.1),
+)

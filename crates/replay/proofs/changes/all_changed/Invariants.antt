@@ -1,5 +1,5 @@
 -- `replay::changes::all_changed` is safe, and its loop ends.
-use Rattle.std.proofs.Common.{◌≡◌, length, arith}
+use Rattle.std.proofs.Common.{◌≡◌, length}
 use Rattle.replay.proofs.changes.all_changed.Given as goal
 
 abbrev pub invariant-loop-left : goal.invariant-loop-left
