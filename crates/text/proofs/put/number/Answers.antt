@@ -17,7 +17,7 @@ text-requires c =
     simp length-set (omega arith)
 
 pub shape_of-out-then-hexadecimal : goal.shape_of-out-then-hexadecimal
-shape_of-out-then-hexadecimal c = c.text.auto.0 ∙ simp length-set
+shape_of-out-then-hexadecimal c = c.text.auto.out ∙ simp length-set
 
 pub returns-then-hexadecimal : goal.returns-then-hexadecimal
 returns-then-hexadecimal c =
@@ -34,7 +34,7 @@ pub decimal-requires : goal.decimal-requires
 decimal-requires c = simp length-set (omega arith)
 
 pub shape_of-out : goal.shape_of-out
-shape_of-out c = c.decimal.auto.0 ∙ simp length-set
+shape_of-out c = c.decimal.auto.out ∙ simp length-set
 
 pub returns : goal.returns
 returns c =
