@@ -13,4 +13,4 @@ returns c =
     let whole : length c.args.out.now ≡ 65536 = search rules in
     let next = c.text-b.ensures.next in
     let head = then c.labelled-a.ensures.0 c.text-b.ensures (omega arith) in
-    (rw (← c.entries-n.ensures.0) (then head c.put.ensures.0 (omega arith)), (counts_text c.put.result c.put.new.0 (omega arith), omega arith))
+    record { put = rw (← c.entries-n.ensures.0) (then head c.put.ensures.0 (omega arith)); prefix_len = counts_text c.put.result c.put.new.out (omega arith); upper_bound = omega arith }

@@ -13,4 +13,4 @@ returns c =
     let whole : length c.args.out.now ≡ 65536 = search rules in
     let next = c.text.ensures.next in
     let named = then c.labelled-a.ensures.0 c.put-b.ensures.0 (omega arith) in
-    (then named c.text.ensures (omega arith), (counts_text c.text.result c.text.new.0 (omega arith), omega arith))
+    record { put = then named c.text.ensures (omega arith); prefix_len = counts_text c.text.result c.text.new.out (omega arith); upper_bound = omega arith }

@@ -12,4 +12,4 @@ unfolding refusal_line
 returns c =
     let whole : length c.args.out.now ≡ 65536 = search rules in
     let next = c.text.ensures.next in
-    (then c.labelled-a.ensures.0 c.text.ensures (omega arith), (counts_text c.text.result c.text.new.0 (omega arith), omega arith))
+    record { put = then c.labelled-a.ensures.0 c.text.ensures (omega arith); prefix_len = counts_text c.text.result c.text.new.out (omega arith); upper_bound = omega arith }

@@ -10,7 +10,7 @@ pub text-requires : goal.text-requires
 text-requires c =
     let d = c.decimal-k in
     let f : c.args.n < 10 ^ 20 = omega arith in
-    let k : d.result ≤ 20 = digits_few 10 1 c.args.n d.result 20 (lit< tt) d.ensures.1.0 (omega arith) f in
+    let k : d.result ≤ 20 = digits_few 10 1 c.args.n d.result 20 (lit< tt) d.ensures.len (omega arith) f in
     omega arith
 
 pub returns : goal.returns
@@ -19,6 +19,6 @@ returns c =
     let d = c.decimal-k in
     let p = c.text in
     let f : s.n < 10 ^ 20 = omega arith in
-    let k : d.result ≤ 20 = digits_few 10 1 s.n d.result 20 (lit< tt) d.ensures.1.0 (omega arith) f in
+    let k : d.result ≤ 20 = digits_few 10 1 s.n d.result 20 (lit< tt) d.ensures.len (omega arith) f in
     let e = p.ensures.next in
-    (decimal_put s.n d.result k d.ensures.1.0 d.ensures.1.1 p.ensures, omega arith)
+    (decimal_put s.n d.result k d.ensures.len d.ensures.digits p.ensures, omega arith)

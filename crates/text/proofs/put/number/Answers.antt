@@ -13,7 +13,7 @@ pub text-requires : goal.text-requires
 text-requires c =
     let x = c.args.x in
     let f : x < 16 ^ 16 = omega arith in
-    let k : c.hex-k.result ≤ 16 = digits_few 16 16 x c.hex-k.result 16 (lit< tt) c.hex-k.ensures.1.0 (omega arith) f in
+    let k : c.hex-k.result ≤ 16 = digits_few 16 16 x c.hex-k.result 16 (lit< tt) c.hex-k.ensures.len (omega arith) f in
     simp length-set (omega arith)
 
 pub shape_of-out-then-hexadecimal : goal.shape_of-out-then-hexadecimal
@@ -24,10 +24,10 @@ returns-then-hexadecimal c =
     let s = c.args in
     let d = c.hex-k in
     let f : s.x < 16 ^ 16 = omega arith in
-    let most : d.result ≤ 16 = digits_few 16 16 s.x d.result 16 (lit< tt) d.ensures.1.0 (omega arith) f in
-    let k : d.result ≡ 16 = omega (arith, d.ensures.1.0.0) in
+    let most : d.result ≤ 16 = digits_few 16 16 s.x d.result 16 (lit< tt) d.ensures.len (omega arith) f in
+    let k : d.result ≡ 16 = omega (arith, d.ensures.len.0) in
     let next = c.text.ensures.next in
-    let digits = hex_put s.x d.result k d.ensures.1.1 c.text.ensures in
+    let digits = hex_put s.x d.result k d.ensures.digits c.text.ensures in
     (in_hex s.x s.hexadecimal c.if-hexadecimal.true (then (one_byte s.out.now s.at 32 (omega arith)) digits (omega arith)), omega arith)
 
 pub decimal-requires : goal.decimal-requires
