@@ -8,15 +8,15 @@ use Rattle.command.proofs.listing.Goals as goal
 pub returns-then-k-out : goal.returns-then-k-out
 returns-then-k-out c =
     let whole = c.whole-n in
-    (printed_line c.complain-k.ensures whole.ensures (omega (arith, c.if-out-n.true)) (omega arith), counts_text _ _ (omega arith))
+    record { put = printed_line c.complain-k.ensures whole.ensures (omega (arith, c.if-out-n.true)) (omega arith); prefix_len = counts_text _ _ (omega arith) }
 
 pub returns-else-k-out : goal.returns-else-k-out
 returns-else-k-out c =
     let whole = c.whole-n in
-    (printed_cut c.complain-k.ensures whole.ensures (omega (arith, c.if-out-n.true)) (omega arith) _ (omega arith), counts_text _ _ (omega arith))
+    record { put = printed_cut c.complain-k.ensures whole.ensures (omega (arith, c.if-out-n.true)) (omega arith) _ (omega arith); prefix_len = counts_text _ _ (omega arith) }
 
 pub returns : goal.returns
 returns c =
     let measured = c.whole-n.ensures.next in
     let next = c.whole.ensures.next in
-    (printed_text c.whole.ensures (omega arith), counts_text _ _ (omega arith))
+    record { put = printed_text c.whole.ensures (omega arith); prefix_len = counts_text _ _ (omega arith) }

@@ -15,10 +15,10 @@ returns-then-not-verbose c = (shown_as (no_text _ _) (moved_quiet _ _ _ _ _ c.in
 pub text-requires : goal.text-requires
 text-requires c =
     let moved = c.moved-n in
-    omega (arith, moved.ensures.1.0.1, moved.ensures.1.1)
+    omega (arith, moved.ensures.prefix_len.1, moved.ensures.upper_bound)
 
 pub returns : goal.returns
 returns c = (
-  shown_as c.text.ensures (page_text c.moved-n.ensures.0 ∙ moved_told _ _ _ _ _ c.in-Done.is c.if-not-verbose.false-raw),
-  omega (arith, c.text.ensures.next, c.moved-n.ensures.1.0.1, c.moved-n.ensures.1.1),
+  shown_as c.text.ensures (page_text c.moved-n.ensures.put ∙ moved_told _ _ _ _ _ c.in-Done.is c.if-not-verbose.false-raw),
+  omega (arith, c.text.ensures.next, c.moved-n.ensures.prefix_len.1, c.moved-n.ensures.upper_bound),
 )
