@@ -8,7 +8,7 @@ use native.Mathlib.Omega.{arith}
 use native.Mathlib.Nat.{sub-zero}
 use lib.Dec.{eqb}
 use lib.ListN.{length, get_or, take, drop, replicate, length-append, length-take}
-use lib.Seq.{take_all, take-length, length-take-le}
+use lib.Seq.{take_all, length-take-le}
 use borrow.Author.Tests.{lt-ltb, le-ltb, not-true, not-false}
 use Rattle.integer.proofs.Order.{le_or_lt}
 use Rattle.low.specs.Bytes.{part}
@@ -29,12 +29,11 @@ over_zeros (suc n) m (x ∷ s) h = ap (λ (l : List ℕ). x ∷ l) (over_zeros n
 
 -- ---- what C is handed
 pub laid : (o s p l : List ℕ) (a b d : ℕ) → a ≡ get_or o 0 0 → b ≡ get_or o 1 0 → d ≡ get_or o 2 0 → s ≡ components_in o → p ≡ part s 0 128
-    → l ≡ take (length p) p ++ drop (length p) (replicate 128 0) → (a ∷ b ∷ d ∷ (l ++ [])) ≡ laid_out o
+    → l ≡ p ++ drop (length p) (replicate 128 0) → (a ∷ b ∷ d ∷ (l ++ [])) ≡ laid_out o
 unfolding laid_out part
 laid o s p l a b d ea eb ed es ep el =
     let e : l ≡ filled 128 (components_in o) =
-    el ∙ ap (λ (x : List ℕ). x ++ drop (length p) (replicate 128 0)) (take-length p)
-    ∙ ap (λ (x : List ℕ). x ++ drop (length x) (replicate 128 0)) (ep ∙ ap (λ (x : List ℕ). take 128 x) es)
+    el ∙ ap (λ (x : List ℕ). x ++ drop (length x) (replicate 128 0)) (ep ∙ ap (λ (x : List ℕ). take 128 x) es)
     ∙ over_zeros 128 128 (components_in o) (omega arith) in
     rw (append-nil l, ← ea, ← eb, ← ed, e)
 

@@ -1,10 +1,18 @@
 // Operators on bytes, through the C functions: the value goes into a slot.
-ghost use Rattle.std.specs.Prelude.{◌≡◌, ◌≤◌};
+ghost use Rattle.std.specs.Prelude.{◌≡◌, ◌≤◌, ◌++◌, length, drop};
 ghost use Rattle.booth.specs.Operand.{direct_answer, direct_bytes};
 ghost use Rattle.cases.specs.Record.{laid_out, used_in, operand_of_c, asked_by};
 ghost use Rattle.cases.specs.Judged.{operator_right};
 
 use crate::{answers, record};
+
+// The bytes of `from` at the start of a buffer that holds them.
+fn copy(from: &[u8], to: &mut [u8])
+    requires { length from.now ≤ length to.old }
+    ensures { to.new ≡ from.now ++ drop (length from.now) to.old }
+{
+    to[..from.len()].copy_from_slice(from);
+}
 
 // An operand as C has it, with zeros after it: type, columns, rows, and the components.
 fn laid_out(operand: &[u8]) -> [u8; 131]
@@ -14,9 +22,10 @@ fn laid_out(operand: &[u8]) -> [u8; 131]
     out[0] = low::byte(operand, 0);
     out[1] = low::byte(operand, 1);
     out[2] = low::byte(operand, 2);
-    let components = low::part(record::components(operand), 0, 128);
-    let n = components.len();
-    out[3..3 + n].copy_from_slice(components);
+    copy(
+        low::part(record::components(operand), 0, 128),
+        &mut out[3..131],
+    );
     out
 }
 
