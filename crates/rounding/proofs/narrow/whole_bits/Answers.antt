@@ -17,8 +17,8 @@ pub returns-then-neg : goal.returns-then-neg
 returns-then-neg c =
     let g = c.args in
     let capped : c.if-p-most.q ≡ min (pack g.digits (g.n * 2 ^ least (kind g.digits g.reach)) 1) (full (kind g.digits g.reach) * hidden (kind g.digits g.reach)) =
-        (elim c.if-p-most.branch as (λ _. c.if-p-most.q ≡ min c.whole_size-p.result c.infinity-most.result) [ then-p-most w ↦ omega arith | else-p-most w ↦ omega arith ])
-        ∙ (λ i. min (c.whole_size-p.ensures i) (c.infinity-most.ensures i)) in
+    (elim c.if-p-most.branch as (λ _. c.if-p-most.q ≡ min c.whole_size-p.result c.infinity-most.result) [ then-p-most w ↦ omega arith | else-p-most w ↦ omega arith ])
+    ∙ (λ i. min (c.whole_size-p.ensures i) (c.infinity-most.ensures i)) in
     let k = kind g.digits g.reach in
     (λ i. c.sign_weight.ensures i + capped i)
     ∙ ap (λ (b : Bool). cond b (signed k) 0 + min (pack g.digits (g.n * 2 ^ least k) 1) (full k * hidden k)) (sym c.if-neg.true)
@@ -33,8 +33,8 @@ pub returns-else-neg : goal.returns-else-neg
 returns-else-neg c =
     let g = c.args in
     let capped : c.if-p-most.q ≡ min (pack g.digits (g.n * 2 ^ least (kind g.digits g.reach)) 1) (full (kind g.digits g.reach) * hidden (kind g.digits g.reach)) =
-        (elim c.if-p-most.branch as (λ _. c.if-p-most.q ≡ min c.whole_size-p.result c.infinity-most.result) [ then-p-most w ↦ omega arith | else-p-most w ↦ omega arith ])
-        ∙ (λ i. min (c.whole_size-p.ensures i) (c.infinity-most.ensures i)) in
+    (elim c.if-p-most.branch as (λ _. c.if-p-most.q ≡ min c.whole_size-p.result c.infinity-most.result) [ then-p-most w ↦ omega arith | else-p-most w ↦ omega arith ])
+    ∙ (λ i. min (c.whole_size-p.ensures i) (c.infinity-most.ensures i)) in
     let k = kind g.digits g.reach in
     capped ∙ sym (zero-add (min (pack g.digits (g.n * 2 ^ least k) 1) (full k * hidden k)))
     ∙ ap (λ (b : Bool). cond b (signed k) 0 + min (pack g.digits (g.n * 2 ^ least k) 1) (full k * hidden k)) (sym c.if-neg.false)

@@ -36,7 +36,7 @@ overflow_add-result-2 c =
     let x = 62 + c.args.reach - count_leading_zeros 64 c.args.n in
     let product : x * c.weight.result ≤ 2 ^ 31 = subst (λ (w : ℕ). x * w ≤ 2 ^ 31) (sym c.weight.ensures) (product_lt x c.args.digits (omega arith) c.requires.2) in
     let rounded : c.round_whole-q.result ≡ closest (c.args.n * 2 ^ count_leading_zeros 64 c.args.n / 2) (2 ^ (63 - c.args.digits)) =
-        c.round_whole-q.ensures ∙ ap (λ (x : ℕ). closest (x / 2) (2 ^ (63 - c.args.digits))) (top_is c.args.n (some c.args.n c.if-n-eq0.false) c.ranges.n.fits) in
+    c.round_whole-q.ensures ∙ ap (λ (x : ℕ). closest (x / 2) (2 ^ (63 - c.args.digits))) (top_is c.args.n (some c.args.n c.if-n-eq0.false) c.ranges.n.fits) in
     omega (
       arith,
       product,
@@ -47,7 +47,7 @@ overflow_add-result-2 c =
 pub returns : goal.returns
 returns c =
     let rounded : c.round_whole-q.result ≡ closest (c.args.n * 2 ^ count_leading_zeros 64 c.args.n / 2) (2 ^ (63 - c.args.digits)) =
-        c.round_whole-q.ensures ∙ ap (λ (x : ℕ). closest (x / 2) (2 ^ (63 - c.args.digits))) (top_is c.args.n (some c.args.n c.if-n-eq0.false) c.ranges.n.fits) in
+    c.round_whole-q.ensures ∙ ap (λ (x : ℕ). closest (x / 2) (2 ^ (63 - c.args.digits))) (top_is c.args.n (some c.args.n c.if-n-eq0.false) c.ranges.n.fits) in
     let g = c.args in
     (λ i. (62 + g.reach - count_leading_zeros 64 g.n) * c.weight.ensures i + rounded i)
     ∙ whole_packed g.n (some c.args.n c.if-n-eq0.false) c.ranges.n.fits c.requires.0 g.digits c.requires.1 c.requires.2 g.reach c.requires.3
