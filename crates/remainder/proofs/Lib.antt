@@ -1,0 +1,2 @@
+-- Laws of whole numbers, over h.
+pub mod Steps

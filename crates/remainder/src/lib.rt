@@ -1,0 +1,76 @@
+// The remainder of two floats by their bit patterns, in whole numbers. Each step loses nothing, and no call of C's `fmod` is made.
+#![tactic(auto)]
+
+ghost use Rattle.std.specs.Prelude.{◌≡◌, ◌+◌, ◌*◌, ◌%◌, ◌^◌, ◌<◌, ◌≤◌};
+ghost use Rattle.remainder.specs.Units.{digits_of, places_of, units_of};
+
+// The digits of a magnitude's pattern, where h is the weight of the exponent's field.
+fn digits(a: u64, h: u64) -> u64
+    requires { (0 < h) × (h ≤ 2 ^ 52) }
+    ensures { result ≡ digits_of h a }
+{
+    if a < h { a } else { h + a % h }
+}
+
+// By how many places they stand above the smallest value.
+fn places(a: u64, h: u64) -> u64
+    requires { 0 < h }
+    ensures { result ≡ places_of h a }
+{
+    if a < h { 0 } else { a / h - 1 }
+}
+
+// Twice c, less n where that goes.
+fn doubled(c: u64, n: u64) -> u64
+    requires { (c < n) × (n ≤ 2 ^ 53) }
+    ensures { (result ≡ (c + c) % n) × (result < n) }
+{
+    if n <= c + c {
+        return c + c - n;
+    }
+    c + c
+}
+
+// m moved up by so many places, less n as often as it goes.
+fn reduced(m: u64, n: u64, up: u64) -> u64
+    requires { (0 < n) × (n ≤ 2 ^ 53) }
+    ensures { (result ≡ m * 2 ^ up % n) × (result < n) }
+{
+    let mut c = m % n;
+    let mut i = 0;
+    while i < up {
+        c = doubled(c, n);
+        i = i + 1;
+    }
+    c
+}
+
+// The pattern of c moved up by e places.
+fn packed(c: u64, e: u64, h: u64) -> u64
+    requires { (0 < h) × (h ≤ 2 ^ 52) × (c < 2 * h) × (e ≤ 2045) }
+    ensures { (units_of h result ≡ c * 2 ^ e) × (result < (e + 2) * h) }
+{
+    let mut m = c;
+    let mut p = e;
+    while 0 < p {
+        if h <= m {
+            return p * h + m;
+        }
+        m = m + m;
+        p = p - 1;
+    }
+    m
+}
+
+// The pattern of what one magnitude leaves by another.
+fn rem_size(a: u64, b: u64, h: u64) -> u64
+    requires { (0 < h) × (h ≤ 2 ^ 52) × (0 < b) × (b < 2047 * h) }
+    ensures { (units_of h result ≡ units_of h a % units_of h b) × (result < (places_of h b + 2) * h) }
+{
+    let low = places(a, h);
+    let high = places(b, h);
+    if low < high {
+        return a;
+    }
+    packed(reduced(digits(a, h), digits(b, h), low - high), high, h)
+}
