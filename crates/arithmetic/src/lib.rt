@@ -141,7 +141,7 @@ fn double_arithmetic(op: u8, x: f64, y: f64) -> f64
         4 => x - y,
         5 => x * y,
         6 => x / y,
-        _ => x % y,
+        _ => remainder::rem_f64(x, y),
     }
 }
 
@@ -154,7 +154,7 @@ fn single_arithmetic(op: u8, x: f32, y: f32) -> f32
         4 => x - y,
         5 => x * y,
         6 => x / y,
-        _ => x % y,
+        _ => remainder::rem_f32(x, y),
     }
 }
 

@@ -1,2 +1,3 @@
--- Laws of whole numbers, over h.
+-- Laws of whole numbers, over h, and of a kind's patterns.
 pub mod Steps
+pub mod Patterns

@@ -1,6 +1,6 @@
 -- Doubling modulo n, and a pattern's smallest values. Assumes nothing.
 use Rattle.std.proofs.Common.{◌≡◌, ℕ, suc, ◌+◌, ◌-◌, ◌*◌, ◌/◌, ◌%◌, ◌^◌, ◌<◌, ◌≤◌, Bool, true, false, cond, nat_lt, ltb, sym, refl, ap, ◌∙◌, subst, mod-lt, mod-eq_of_lt, arith, pow_pos, pow_mono, pow-add, lt-ltb, le-ltb, inl, inr}
-use Rattle.std.proofs.Math.Nat.{mod-eq-sub-mod, add-mod, pow-suc, mod-mod, mod-add-div', add-mul-mod_self_right, mul-add-mod_self_right, mul-add-div_right, mul-lt-mul_of_pos_right, div-lt_iff_lt-mul, le-div_iff_mul-le, lt-div-mul-add, mul-le-mul, mul_assoc}
+use Rattle.std.proofs.Math.Nat.{mod-eq-sub-mod, add-mod, pow-suc, mod-mod, mod-add-div', add-mul-mod_self_right, mul-add-mod_self_right, mul-add-div_right, mul-lt-mul_of_pos_right, div-lt_iff_lt-mul, le-div_iff_mul-le, lt-div-mul-add, mul-le-mul, mul_assoc, mul-pos}
 use Rattle.integer.proofs.Order.{le_or_lt}
 use Rattle.remainder.specs.Units.{digits_of, places_of, units_of}
 
@@ -116,6 +116,20 @@ left_over h a b c r H B l e f =
     let d = places_of h a - places_of h b in
     let C = 2 ^ places_of h b in
     let up : digits_of h a * 2 ^ d * C ≡ digits_of h a * 2 ^ places_of h a =
-        mul_assoc (digits_of h a) (2 ^ d) C ∙ ap (λ (x : ℕ). digits_of h a * x) (sym (pow-add 2 d (places_of h b)) ∙ ap (λ (k : ℕ). 2 ^ k) (let g : d + places_of h b ≡ places_of h a = omega arith in g)) in
+    mul_assoc (digits_of h a) (2 ^ d) C ∙ ap (λ (x : ℕ). digits_of h a * x) (sym (pow-add 2 d (places_of h b)) ∙ ap (λ (k : ℕ). 2 ^ k) (let g : d + places_of h b ≡ places_of h a = omega arith in g)) in
     f ∙ ap (λ (x : ℕ). x * C) e ∙ sym (moved (digits_of h a * 2 ^ d) (digits_of h b) C (digits_pos h b H B) (pow_pos (places_of h b)))
     ∙ ap (λ (x : ℕ). x % (digits_of h b * C)) up
+
+pub units_pos : (h a : ℕ) → 0 < h → 0 < a → 0 < units_of h a
+unfolding units_of
+units_pos h a H p = mul-pos (digits_pos h a H p) (pow_pos (places_of h a))
+
+-- a pattern below the infinity's, whose field is n
+pub places_under : (h b n : ℕ) → 0 < h → 2 ≤ n → b < n * h → places_of h b + 2 ≤ n
+places_under h b n H two l = elim (le_or_lt h b) [ inl k ↦ high k | inr k ↦ omega (arith, (below h b k).1) ]
+  where
+    high : h ≤ b → places_of h b + 2 ≤ n
+    high k =
+        let t : b / h < n = (div-lt_iff_lt-mul H).1 l in
+        let one : 1 ≤ b / h = (le-div_iff_mul-le H).1 (let g : 1 * h ≤ b = omega arith in g) in
+        omega (arith, (above h b k).1)

@@ -2,6 +2,8 @@
 #![tactic(auto)]
 
 ghost use Rattle.std.specs.Prelude.{◌≡◌, ◌+◌, ◌*◌, ◌%◌, ◌^◌, ◌<◌, ◌≤◌};
+ghost use Rattle.rounding.specs.Kind.{single, double};
+ghost use Rattle.rounding.specs.Arithmetic.{rem};
 ghost use Rattle.remainder.specs.Units.{digits_of, places_of, units_of};
 
 // The digits of a magnitude's pattern, where h is the weight of the exponent's field.
@@ -73,4 +75,50 @@ fn rem_size(a: u64, b: u64, h: u64) -> u64
         return a;
     }
     packed(reduced(digits(a, h), digits(b, h), low - high), high, h)
+}
+
+// What x leaves by y: the exact truncated remainder, with the sign of x. A NaN, an infinite x and a zero y give NaN.
+pub fn rem_f64(x: f64, y: f64) -> f64
+    ensures { result ≡ rem double x y }
+{
+    if !rounding::finite_f64(x) {
+        return 0.0 / 0.0;
+    }
+    if y != y {
+        return 0.0 / 0.0;
+    }
+    if !rounding::finite_f64(y) {
+        return x;
+    }
+    let w = rounding::f64_bits(x);
+    let a = w % 0x8000_0000_0000_0000;
+    let b = rounding::f64_bits(y) % 0x8000_0000_0000_0000;
+    if b == 0 {
+        return 0.0 / 0.0;
+    }
+    let r = rem_size(a, b, 0x10_0000_0000_0000);
+    rounding::f64_of_bits(w - a + r)
+}
+
+// The same of 32 bits.
+pub fn rem_f32(x: f32, y: f32) -> f32
+    ensures { result ≡ rem single x y }
+{
+    if !rounding::finite_f32(x) {
+        return 0.0 / 0.0;
+    }
+    if y != y {
+        return 0.0 / 0.0;
+    }
+    if !rounding::finite_f32(y) {
+        return x;
+    }
+    let w = rounding::f32_bits(x) as u64;
+    let a = w % 0x8000_0000;
+    let b = (rounding::f32_bits(y) as u64) % 0x8000_0000;
+    if b == 0 {
+        return 0.0 / 0.0;
+    }
+    let r = rem_size(a, b, 0x80_0000);
+    rounding::f32_of_bits((w - a + r) as u32)
 }

@@ -2,7 +2,7 @@
 use mathlib.Core.Path.{◌∙◌}
 use lib.Ieee.{binary32}
 use Rattle.rounding.specs.Kind.{single}
-use Rattle.rounding.proofs.Same.{add_is, sub_is, mul_is, div_is, rem_is}
+use Rattle.rounding.proofs.Same.{add_is, sub_is, mul_is, div_is}
 use Rattle.arithmetic.proofs.Arms.{last_float}
 use Rattle.arithmetic.proofs.single_arithmetic.Goals as goal
 
@@ -19,4 +19,4 @@ pub returns-in-6 : goal.returns-in-6
 returns-in-6 c = rw c.in-6.is (div_is binary32 _ _)
 
 pub returns-in_default : goal.returns-in_default
-returns-in_default c = let a = c.args in rem_is binary32 _ _ ∙ last_float a.op single a.x a.y c.in_default.in_default-own.rest
+returns-in_default c = let a = c.args in c.rem_f32.ensures ∙ last_float a.op single a.x a.y c.in_default.in_default-own.rest

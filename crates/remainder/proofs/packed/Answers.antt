@@ -23,6 +23,7 @@ returns-then-h-m c =
 pub returns : goal.returns
 returns c =
     let l = c.loop-p in
-    let none : l.p ≡ 0 = omega arith in
-    (packed_low c.args.h l.m l.invariant.1 ∙ ap (λ (k : ℕ). l.m * 2 ^ k) (let e : 0 ≡ l.p = omega arith in e) ∙ l.invariant.0,
-    omega (arith, mul-le-mul {n₁ = 2} {m₁ = c.args.h} {n₂ = c.args.e + 2} {m₂ = c.args.h} (omega arith) (omega arith)))
+    let none : l.p ≡ 0 = omega arith in (
+      packed_low c.args.h l.m l.invariant.1 ∙ ap (λ (k : ℕ). l.m * 2 ^ k) (let e : 0 ≡ l.p = omega arith in e) ∙ l.invariant.0,
+      omega (arith, mul-le-mul {n₁ = 2} {m₁ = c.args.h} {n₂ = c.args.e + 2} {m₂ = c.args.h} (omega arith) (omega arith)),
+    )

@@ -1,0 +1,100 @@
+// Changes, several in a row over one buffer; after each of them every byte of the buffer is compared.
+use cases::answers;
+use std::num::wrapping_add_usize;
+
+// Where the next change stands in a record, where the bytes stand that the buffer must hold, and whether all was right so far.
+#[derive(Clone, Copy)]
+struct Place {
+    right: bool,
+    at: usize,
+    bytes: usize,
+}
+
+// Whether a change answers its number and detail: entry, type, eight bytes of content, number, detail.
+fn is_answered(sheet: &[u8], results: &mut [u8], change: &[u8]) -> bool {
+    let answer = booth::sheet_change(
+        sheet,
+        results,
+        low::word(change, 0) as u64,
+        low::byte(change, 4),
+        low::number(low::part(change, 5, 8)),
+    );
+    answers(answer, low::part(change, 13, 5))
+}
+
+// The places after the change at a place: after it stands 1 where the whole buffer follows, of n bytes, and else 0.
+fn after(change: &[u8], n: usize, p: Place) -> Place {
+    let at = wrapping_add_usize(p.at, 19);
+    if low::byte(change, 18) == 1 {
+        return Place {
+            right: p.right,
+            at: wrapping_add_usize(at, n),
+            bytes: at,
+        };
+    }
+    Place {
+        right: p.right,
+        at,
+        bytes: p.bytes,
+    }
+}
+
+// One change, and whether it answers and leaves the bytes that it must.
+fn changed(sheet: &[u8], case: &[u8], results: &mut [u8], p: Place) -> Place {
+    let change = low::part(case, p.at, 19);
+    let right = is_answered(sheet, results, change);
+    let q = after(change, results.len(), p);
+    let same = check::same(results, low::part(case, q.bytes, results.len()));
+    Place {
+        right: right & same,
+        at: q.at,
+        bytes: q.bytes,
+    }
+}
+
+// Each of the changes that a record has, from a place on.
+fn all_changed(sheet: &[u8], case: &[u8], results: &mut [u8], first: Place, count: usize) -> bool {
+    let mut p = first;
+    let mut left = count;
+    while 0 < left {
+        p = changed(sheet, case, results, p);
+        if !p.right {
+            return false;
+        }
+        left -= 1;
+    }
+    true
+}
+
+// The bytes of `from` at the start of a buffer that holds them.
+fn put(out: &mut [u8], from: &[u8]) {
+    if from.len() <= out.len() {
+        out[..from.len()].copy_from_slice(from);
+    }
+}
+
+// A record: the sheet's length, the sheet, the buffer's length, the buffer, the number of changes, and the changes.
+pub(crate) fn is_right(case: &[u8]) -> bool {
+    let n = low::word(case, 0) as usize;
+    let start = 8 + n;
+    let size = low::word(case, 4 + n) as usize;
+    let end = start + size;
+    if 32768 < size {
+        return false;
+    }
+    let mut results = [0u8; 32768];
+    put(&mut results, low::part(case, start, size));
+    let first = Place {
+        right: true,
+        at: end + 2,
+        bytes: start,
+    };
+    let count = low::number(low::part(case, end, 2)) as usize;
+    all_changed(
+        low::part(case, 4, n),
+        case,
+        &mut results[0..size],
+        first,
+        count,
+    )
+}
