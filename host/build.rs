@@ -13,6 +13,5 @@ fn main() {
     println!("cargo:rustc-env=BOOTH_FOUND={}", archive.display());
     println!("cargo:rustc-link-search=native={}", folder.display());
     println!("cargo:rustc-link-lib=static=booth");
-    // `%` on floats is the C library's fmod and fmodf.
     println!("cargo:rustc-link-lib=m");
 }
