@@ -21,8 +21,8 @@ use Rattle.types.proofs.Choice.{picked, passed}
 use Rattle.value.specs.declared.Scalar.{Scalar}
 use Rattle.value.specs.declared.Scalar.TheVariants.{AbstractFloat, F32, F16}
 use Rattle.value.specs.declared.ShaderStage.{ShaderStage}
-use Rattle.value.specs.declared.Answer.TheVariants.{AddOverflow, SubOverflow, MulOverflow}
-use Rattle.value.specs.Answer.{Result, value, answer_of}
+use Rattle.value.specs.declared.OperatorError.TheVariants.{AddOverflow, SubOverflow, MulOverflow}
+use Rattle.value.specs.Answer.{Result, value, refused_by}
 use Rattle.value.specs.Pattern.{pick, nan_pattern, kept_of}
 use Rattle.value.specs.Scalar.{finite_of}
 use Rattle.arithmetic.specs.Arithmetic.{finite_or, half_of, in_exec, no_div}
@@ -66,15 +66,15 @@ module _ (s : Bool) (x : Exact) (w : Float) (other : Float → Result) (h : Roun
 -- ---- AbstractFloat
 pub add_float : AddRounded abstract_float
 add_float stage x y f g =
-    settled_once double (sum_sign x y) (plus (exact_of x) (exact_of y)) (add double x y) AbstractFloat (λ v. answer_of AddOverflow) (sum_rounded double double_sized x y f g) refl
+    settled_once double (sum_sign x y) (plus (exact_of x) (exact_of y)) (add double x y) AbstractFloat (λ v. refused_by AddOverflow) (sum_rounded double double_sized x y f g) refl
 
 pub sub_float : SubRounded abstract_float
 sub_float stage x y f g =
-    settled_once double (difference_sign x y) (minus (exact_of x) (exact_of y)) (sub double x y) AbstractFloat (λ v. answer_of SubOverflow) (difference_rounded double double_sized x y f g) refl
+    settled_once double (difference_sign x y) (minus (exact_of x) (exact_of y)) (sub double x y) AbstractFloat (λ v. refused_by SubOverflow) (difference_rounded double double_sized x y f g) refl
 
 pub mul_float : MulRounded abstract_float
 mul_float stage x y f g =
-    settled_once double (product_sign x y) (times (exact_of x) (exact_of y)) (mul double x y) AbstractFloat (λ v. answer_of MulOverflow) (product_rounded double double_sized x y f g) refl
+    settled_once double (product_sign x y) (times (exact_of x) (exact_of y)) (mul double x y) AbstractFloat (λ v. refused_by MulOverflow) (product_rounded double double_sized x y f g) refl
 
 pub div_float : DivRounded abstract_float
 div_float stage x y f g n =
@@ -86,16 +86,16 @@ zero_float stage x y f g z = sym (passed (value (AbstractFloat (div double x y))
 -- ---- F32
 pub add_f32 : AddRounded f32
 add_f32 stage x y f g =
-    settled_once single (sum_sign x y) (plus (exact_of x) (exact_of y)) (add single x y) F32 (λ v. in_exec stage (answer_of AddOverflow) (F32 v)) (sum_rounded single single_sized x y f g) refl
+    settled_once single (sum_sign x y) (plus (exact_of x) (exact_of y)) (add single x y) F32 (λ v. in_exec stage (refused_by AddOverflow) (F32 v)) (sum_rounded single single_sized x y f g) refl
 
 pub sub_f32 : SubRounded f32
 sub_f32 stage x y f g =
-    settled_once single (difference_sign x y) (minus (exact_of x) (exact_of y)) (sub single x y) F32 (λ v. in_exec stage (answer_of SubOverflow) (F32 v))
+    settled_once single (difference_sign x y) (minus (exact_of x) (exact_of y)) (sub single x y) F32 (λ v. in_exec stage (refused_by SubOverflow) (F32 v))
     (difference_rounded single single_sized x y f g) refl
 
 pub mul_f32 : MulRounded f32
 mul_f32 stage x y f g =
-    settled_once single (product_sign x y) (times (exact_of x) (exact_of y)) (mul single x y) F32 (λ v. in_exec stage (answer_of MulOverflow) (F32 v)) (product_rounded single single_sized x y f g) refl
+    settled_once single (product_sign x y) (times (exact_of x) (exact_of y)) (mul single x y) F32 (λ v. in_exec stage (refused_by MulOverflow) (F32 v)) (product_rounded single single_sized x y f g) refl
 
 pub div_f32 : DivRounded f32
 div_f32 stage x y f g n =
@@ -112,20 +112,20 @@ pub add_f16 : AddRounded f16
 add_f16 stage p q f g =
     let x = of_bits half p in
     let y = of_bits half q in
-    settled_twice (sum_sign x y) (plus (exact_of x) (exact_of y)) (add single x y) (overflow stage (answer_of AddOverflow)) (sum_rounded single single_sized x y f g) (half_sum_small p q f g)
+    settled_twice (sum_sign x y) (plus (exact_of x) (exact_of y)) (add single x y) (overflow stage (refused_by AddOverflow)) (sum_rounded single single_sized x y f g) (half_sum_small p q f g)
 
 pub sub_f16 : SubRounded f16
 sub_f16 stage p q f g =
     let x = of_bits half p in
     let y = of_bits half q in
-    settled_twice (difference_sign x y) (minus (exact_of x) (exact_of y)) (sub single x y) (overflow stage (answer_of SubOverflow)) (difference_rounded single single_sized x y f g)
+    settled_twice (difference_sign x y) (minus (exact_of x) (exact_of y)) (sub single x y) (overflow stage (refused_by SubOverflow)) (difference_rounded single single_sized x y f g)
     (half_difference_small p q f g)
 
 pub mul_f16 : MulRounded f16
 mul_f16 stage p q f g =
     let x = of_bits half p in
     let y = of_bits half q in
-    settled_twice (product_sign x y) (times (exact_of x) (exact_of y)) (mul single x y) (overflow stage (answer_of MulOverflow)) (product_rounded single single_sized x y f g) (half_product_small p q f g)
+    settled_twice (product_sign x y) (times (exact_of x) (exact_of y)) (mul single x y) (overflow stage (refused_by MulOverflow)) (product_rounded single single_sized x y f g) (half_product_small p q f g)
 
 -- the left operand of `/` is handed back with its NaN as it is kept: a finite one as it is
 finite_kept : (b : ℕ) → finite (of_bits half b) ≡ true → kept_of 6 b ≡ b
@@ -158,21 +158,21 @@ pub add_f16_once : AddRounded f16_once
 add_f16_once stage p q f g =
     let x = of_bits half p in
     let y = of_bits half q in
-    settled_whole (sum_sign x y) (plus (exact_of x) (exact_of y)) (add single x y) (overflow stage (answer_of AddOverflow)) (sum_rounded single single_sized x y f g)
+    settled_whole (sum_sign x y) (plus (exact_of x) (exact_of y)) (add single x y) (overflow stage (refused_by AddOverflow)) (sum_rounded single single_sized x y f g)
     (half_sum_small p q f g) (half_sum p q f g)
 
 pub sub_f16_once : SubRounded f16_once
 sub_f16_once stage p q f g =
     let x = of_bits half p in
     let y = of_bits half q in
-    settled_whole (difference_sign x y) (minus (exact_of x) (exact_of y)) (sub single x y) (overflow stage (answer_of SubOverflow)) (difference_rounded single single_sized x y f g)
+    settled_whole (difference_sign x y) (minus (exact_of x) (exact_of y)) (sub single x y) (overflow stage (refused_by SubOverflow)) (difference_rounded single single_sized x y f g)
     (half_difference_small p q f g) (half_difference p q f g)
 
 pub mul_f16_once : MulRounded f16_once
 mul_f16_once stage p q f g =
     let x = of_bits half p in
     let y = of_bits half q in
-    settled_whole (product_sign x y) (times (exact_of x) (exact_of y)) (mul single x y) (overflow stage (answer_of MulOverflow)) (product_rounded single single_sized x y f g)
+    settled_whole (product_sign x y) (times (exact_of x) (exact_of y)) (mul single x y) (overflow stage (refused_by MulOverflow)) (product_rounded single single_sized x y f g)
     (half_product_small p q f g) (half_product p q f g)
 
 pub div_f16_once : DivRounded f16_once

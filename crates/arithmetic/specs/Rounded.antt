@@ -1,7 +1,7 @@
 -- 01, Operators: "A float `+ - * /` in F32 or AbstractFloat is the exact result rounded once", and "F16 arithmetic widens exactly, does one F32 operation and
 -- rounds once to F16", said of what each operator answers on two finite floats of one type. `proofs/Rounded.antt` shows each claim of each type, and of F16 also
 -- that its two roundings are one: no F16 is nearer to the exact result. Assumes nothing.
-use Rattle.std.specs.Prelude.{ℕ, ◌≡◌, Bool, true, pos, Float}
+use Rattle.std.specs.Prelude.{ℕ, ◌≡◌, Bool, true, pos, Float, Some}
 use Rattle.std.specs.Float.{inf}
 use Rattle.rounding.specs.Kind.{Kind, half, single, double}
 use Rattle.rounding.specs.Bits.{to_bits, of_bits, finite}
@@ -10,10 +10,10 @@ use Rattle.value.specs.declared.Scalar.{Scalar}
 use Rattle.value.specs.declared.Scalar.TheVariants.{AbstractFloat, F32, F16}
 use Rattle.value.specs.declared.ShaderStage.{ShaderStage}
 use Rattle.value.specs.declared.ShaderStage.TheVariants.{Const}
-use Rattle.value.specs.declared.Answer.TheVariants.{AddOverflow, SubOverflow, MulOverflow}
+use Rattle.value.specs.declared.OperatorError.TheVariants.{AddOverflow, SubOverflow, MulOverflow}
 use Rattle.value.specs.declared.Pair.{Pair}
 use Rattle.value.specs.declared.Pair.TheVariants as P
-use Rattle.value.specs.Answer.{Result, value, answer_of}
+use Rattle.value.specs.Answer.{Result, value, refused_by}
 use Rattle.arithmetic.specs.Arithmetic.{add_of, sub_of, mul_of, div_of, half_bits, in_exec, no_div}
 
 -- ---- the three float types
@@ -70,7 +70,7 @@ AddRounded t =
     (stage : ShaderStage) (l r : t.Operand) → finite (t.float l) ≡ true → finite (t.float r) ≡ true
     → let x = t.float l in
     let y = t.float r in
-    Answers t (sum_sign x y) (plus (exact_of x) (exact_of y)) (overflows t stage (answer_of AddOverflow) (sum_sign x y)) (add_of stage (t.pair l r))
+    Answers t (sum_sign x y) (plus (exact_of x) (exact_of y)) (overflows t stage (refused_by AddOverflow) (sum_sign x y)) (add_of stage (Some (t.pair l r)))
 
 -- `-`
 abbrev pub SubRounded : FloatType → Type 0
@@ -78,7 +78,7 @@ SubRounded t =
     (stage : ShaderStage) (l r : t.Operand) → finite (t.float l) ≡ true → finite (t.float r) ≡ true
     → let x = t.float l in
     let y = t.float r in
-    Answers t (difference_sign x y) (minus (exact_of x) (exact_of y)) (overflows t stage (answer_of SubOverflow) (difference_sign x y)) (sub_of stage (t.pair l r))
+    Answers t (difference_sign x y) (minus (exact_of x) (exact_of y)) (overflows t stage (refused_by SubOverflow) (difference_sign x y)) (sub_of stage (Some (t.pair l r)))
 
 -- `*`
 abbrev pub MulRounded : FloatType → Type 0
@@ -86,7 +86,7 @@ MulRounded t =
     (stage : ShaderStage) (l r : t.Operand) → finite (t.float l) ≡ true → finite (t.float r) ≡ true
     → let x = t.float l in
     let y = t.float r in
-    Answers t (product_sign x y) (times (exact_of x) (exact_of y)) (overflows t stage (answer_of MulOverflow) (product_sign x y)) (mul_of stage (t.pair l r))
+    Answers t (product_sign x y) (times (exact_of x) (exact_of y)) (overflows t stage (refused_by MulOverflow) (product_sign x y)) (mul_of stage (Some (t.pair l r)))
 
 -- `/` by a divisor that is not 0; "a float result that is not finite: DivByZero in Const and Override, the converted left operand in Exec"
 abbrev pub DivRounded : FloatType → Type 0
@@ -94,13 +94,13 @@ DivRounded t =
     (stage : ShaderStage) (l r : t.Operand) → finite (t.float l) ≡ true → finite (t.float r) ≡ true → ((exact_of (t.float r)).top ≡ pos 0 → ⊥)
     → let x = t.float l in
     let y = t.float r in
-    Answers t (product_sign x y) (over (exact_of x) (exact_of y)) (no_div stage (t.scalar l)) (div_of stage (t.pair l r))
+    Answers t (product_sign x y) (over (exact_of x) (exact_of y)) (no_div stage (t.scalar l)) (div_of stage (Some (t.pair l r)))
 
 -- `/` by a zero of either sign
 abbrev pub DivByZeroRefused : FloatType → Type 0
 DivByZeroRefused t =
     (stage : ShaderStage) (l r : t.Operand) → finite (t.float l) ≡ true → finite (t.float r) ≡ true → (exact_of (t.float r)).top ≡ pos 0
-    → div_of stage (t.pair l r) ≡ no_div stage (t.scalar l)
+    → div_of stage (Some (t.pair l r)) ≡ no_div stage (t.scalar l)
 
 -- ---- F16 by F32 is F16's own operator: the exact result rounded once to F16
 abbrev pub HalfIs : (Kind → Float → Float → Float) → ℕ → ℕ → Type 0

@@ -5,29 +5,29 @@ use mathlib.Core.List.{List, [], ◌∷◌}
 use Prim.Native.Nat.{ℕ}
 use Rattle.words.specs.Spelling.{low_digit, letter_digit, digit_of, onwards, digits_only, spelled}
 use Rattle.words.specs.Split.{before, behind, word_at, next_place, word_place}
-use Rattle.asked.specs.declared.asked.Asked.TheVariants.{Change, Bad}
-use Rattle.asked.specs.Asked.{dash_v, verbose, sheet_at, numbered, asked_at, asked_from, first_bad}
+use Rattle.std.proofs.Common.{Some, None, Ok, Err}
+use Rattle.asked.specs.Asked.{dash_v, verbose, sheet_at, spelled_in, code_of, asked_at, asked_from, first_bad}
 
 -- `-v`, `s`, `1`, a type's digit and `10`, each ended by a byte 0
 abbrev line : ℕ → List ℕ
 line ty = 45 ∷ 118 ∷ 0 ∷ 115 ∷ 0 ∷ 49 ∷ 0 ∷ ty ∷ 0 ∷ 49 ∷ 48 ∷ 0 ∷ []
 
 -- change_at: the content is hexadecimal, the entry and the type are not; a type past the last is no type
-pub bits_in_hex : asked_at (line 52) 2 ≡ Change 1 4 16
-unfolding asked_at numbered before behind word_at low_digit letter_digit digit_of onwards digits_only spelled
+pub bits_in_hex : asked_at (line 52) 2 ≡ Ok (record { entry = 1; ty = 4; bits = 16 })
+unfolding asked_at spelled_in code_of before behind word_at low_digit letter_digit digit_of onwards digits_only spelled
 bits_in_hex = refl
 
-pub type_named : asked_at (line 55) 2 ≡ Bad 3
-unfolding asked_at numbered before behind word_at low_digit letter_digit digit_of onwards digits_only spelled
+pub type_named : asked_at (line 55) 2 ≡ Err 3
+unfolding asked_at spelled_in code_of before behind word_at low_digit letter_digit digit_of onwards digits_only spelled
 type_named = refl
 
 -- first_bad: the word that is told is the bad one, not the first of its change; good words are none
-pub bad_told : first_bad (asked_from 1 (line 55) 2) ≡ 3
-unfolding asked_at asked_from first_bad numbered before behind word_at low_digit letter_digit digit_of onwards digits_only spelled
+pub bad_told : first_bad (asked_from 1 (line 55) 2) ≡ Some 3
+unfolding asked_at asked_from first_bad spelled_in code_of before behind word_at low_digit letter_digit digit_of onwards digits_only spelled
 bad_told = refl
 
-pub good_passed : first_bad (asked_from 1 (line 52) 2) ≡ 0
-unfolding asked_at asked_from first_bad numbered before behind word_at low_digit letter_digit digit_of onwards digits_only spelled
+pub good_passed : first_bad (asked_from 1 (line 52) 2) ≡ None
+unfolding asked_at asked_from first_bad spelled_in code_of before behind word_at low_digit letter_digit digit_of onwards digits_only spelled
 good_passed = refl
 
 -- sheet_at and sheet_word: `-v` is not the sheet's name

@@ -1,51 +1,44 @@
 // The changes that a command asks for.
 ghost use Rattle.std.specs.Prelude.{◌≡◌, ◌+◌, ◌*◌, ◌^◌, ◌<◌};
-ghost use Rattle.asked.specs.Asked.{asked_at, asked_from, first_bad};
+ghost use Rattle.words.specs.Spelling.{spelled};
+ghost use Rattle.asked.specs.Asked.{code_of, asked_at, asked_from, first_bad};
 
-use words::Spelled;
-
-// An entry, the code of a type and 8 bytes of content; or the number of the first word that is none.
-#[derive(Clone, Copy)]
-pub enum Asked {
-    Change(u64, u8, u64),
-    Bad(usize),
+// An entry, the code of a type and 8 bytes of content.
+#[derive(Clone, Copy, Debug, PartialEq, Eq)]
+pub struct Change {
+    pub entry: u64,
+    pub ty: u8,
+    pub bits: u64,
 }
 
-// The change that stands in the three words from word k on.
-pub fn change_at(line: &[u8], k: usize) -> Asked
+// The type's code that a word spells.
+fn code(word: &[u8]) -> Option<u8>
+    ensures { result ≡ code_of (spelled 10 word.now) }
+{
+    let ty = u8::try_from(words::decimal(word)?).ok()?;
+    types::known(ty).then_some(ty)
+}
+
+// The change that stands in the three words from word k on; or the number of the first of them that is bad.
+pub fn change_at(line: &[u8], k: usize) -> Result<Change, usize>
     requires { k + 2 < 2 ^ 64 }
     ensures { result ≡ asked_at line.now k }
 {
-    let Spelled::Number(entry) = words::decimal(words::word(line, k)) else {
-        return Asked::Bad(k);
-    };
-    let Spelled::Number(ty) = words::decimal(words::word(line, k + 1)) else {
-        return Asked::Bad(k + 1);
-    };
-    if 255 < ty {
-        return Asked::Bad(k + 1);
-    }
-    let code = ty as u8;
-    if !types::known(code) {
-        return Asked::Bad(k + 1);
-    }
-    let Spelled::Number(bits) = words::hex(words::word(line, k + 2)) else {
-        return Asked::Bad(k + 2);
-    };
-    Asked::Change(entry, code, bits)
+    let entry = words::decimal(words::word(line, k)).ok_or(k)?;
+    let ty = code(words::word(line, k + 1)).ok_or(k + 1)?;
+    let bits = words::hex(words::word(line, k + 2)).ok_or(k + 2)?;
+    Ok(Change { entry, ty, bits })
 }
 
-// The number of the first word that is none of a change's, among n changes from word `from` on; 0 where there is no such word.
-pub fn first_bad(line: &[u8], from: usize, n: usize) -> usize
+// The number of the first word that is none of a change's, among n changes from word `from` on.
+pub fn first_bad(line: &[u8], from: usize, n: usize) -> Option<usize>
     requires { from + 3 * n < 2 ^ 64 }
     ensures { result ≡ first_bad (asked_from n line.now from) }
 {
-    let mut i = 0;
-    while i < n {
-        if let Asked::Bad(k) = change_at(line, from + 3 * i) {
-            return k;
+    for i in 0..n {
+        if let Err(k) = change_at(line, from + 3 * i) {
+            return Some(k);
         }
-        i += 1;
     }
-    0
+    None
 }

@@ -4,5 +4,5 @@
 mod asked;
 mod sheet;
 
-pub use asked::{Asked, change_at, first_bad};
+pub use asked::{Change, change_at, first_bad};
 pub use sheet::{sheet_at, sheet_word};

@@ -7,17 +7,14 @@ ghost use Rattle.asked.specs.Asked.{dash_v, sheet_at};
 fn dash_v(w: &[u8]) -> bool
     ensures { result ≡ dash_v w.now }
 {
-    if w.len() != 2 {
-        return false;
-    }
-    (w[0] == b'-') & (w[1] == b'v')
+    w == b"-v".as_slice()
 }
 
 // Which word is the sheet's name.
 pub fn sheet_at(line: &[u8]) -> usize
     ensures { (result ≡ sheet_at line.now) × (result ≤ 1) }
 {
-    if dash_v(words::word(line, 0)) { 1 } else { 0 }
+    usize::from(dash_v(words::word(line, 0)))
 }
 
 // The sheet's name, as a part of the line.

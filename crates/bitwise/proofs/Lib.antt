@@ -1,5 +1,3 @@
 -- The laws of this crate. Assumes nothing.
-pub mod Codes
-pub mod Counted
 pub mod Impostors
 pub mod Single

@@ -1,5 +1,5 @@
 -- 01, Operators: "`| &` on Bool and integers, `^` on integers". Assumes nothing.
-use Rattle.std.specs.Prelude.{ℕ, Bool, ◌&&◌, ◌||◌, eqb, ℤ}
+use Rattle.std.specs.Prelude.{ℕ, Bool, ◌&&◌, ◌||◌, eqb, ℤ, Option, Some, None}
 use Rattle.std.specs.Int.Bits.{bit_and, bit_or, bit_xor}
 use Rattle.std.specs.Int.{Width, w32, w64}
 use Rattle.std.proofs.Common.{to_z, of_z}
@@ -16,15 +16,15 @@ abbrev pub signed_bits : Width → (ℕ → ℕ → ℕ) → ℤ → ℤ → ℤ
 signed_bits w op x y = to_z w (op (of_z w x) (of_z w y))
 
 -- an operator by what it does to Bools and to bits
-abbrev pub bitwise : (Bool → Bool → Result) → (ℕ → ℕ → ℕ) → Pair → Result
-bitwise bools op (P.Bool x y) = bools x y
-bitwise bools op (P.AbstractInt x y) = value (AbstractInt (signed_bits w64 op x y))
-bitwise bools op (P.AbstractFloat x y) = binary
-bitwise bools op (P.I32 x y) = value (I32 (signed_bits w32 op x y))
-bitwise bools op (P.U32 x y) = value (U32 (op x y))
-bitwise bools op (P.F32 x y) = binary
-bitwise bools op (P.F16 x y) = binary
-bitwise bools op P.None = binary
+abbrev pub bitwise : (Bool → Bool → Result) → (ℕ → ℕ → ℕ) → Option Pair → Result
+bitwise bools op (Some (P.Bool x y)) = bools x y
+bitwise bools op (Some (P.AbstractInt x y)) = value (AbstractInt (signed_bits w64 op x y))
+bitwise bools op (Some (P.AbstractFloat x y)) = binary
+bitwise bools op (Some (P.I32 x y)) = value (I32 (signed_bits w32 op x y))
+bitwise bools op (Some (P.U32 x y)) = value (U32 (op x y))
+bitwise bools op (Some (P.F32 x y)) = binary
+bitwise bools op (Some (P.F16 x y)) = binary
+bitwise bools op None = binary
 
 abbrev pub either : Bool → Bool → Result
 either x y = value (bool (x || y))
@@ -47,14 +47,14 @@ abbrev pub bits_by : ℕ → ℕ → ℕ → ℕ
 bits_by op = of_three op bit_or bit_and bit_xor
 
 -- "`| &` on Bool and integers"
-abbrev pub bit_or_of : Pair → Result
+abbrev pub bit_or_of : Option Pair → Result
 bit_or_of = bitwise either bit_or
 
-abbrev pub bit_and_of : Pair → Result
+abbrev pub bit_and_of : Option Pair → Result
 bit_and_of = bitwise both bit_and
 
 -- "`^` on integers"
-abbrev pub bit_xor_of : Pair → Result
+abbrev pub bit_xor_of : Option Pair → Result
 bit_xor_of = bitwise neither bit_xor
 
 -- an operator that integers have, by what it does to each of them; the others get the refusal

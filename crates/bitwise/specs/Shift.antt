@@ -1,22 +1,14 @@
 -- 01, Operators, "Shifts". Assumes nothing.
-use Rattle.std.specs.Prelude.{ℕ, ◌*◌, ◌/◌, ◌%◌, ◌^◌, leb, ℤ, pos, ◌*ℤ◌, Bool}
+use Rattle.std.specs.Prelude.{ℕ, ◌*◌, ◌/◌, ◌%◌, ◌^◌, leb, ℤ, pos, ◌*ℤ◌, Bool, Option, Some, None}
 use Rattle.std.specs.Int.Signed.{shr_z}
 use Rattle.std.specs.Int.{Width, w32, w64}
 use mir.Val.{bits}
 use Rattle.integer.specs.Wrap.{wrap_u, wrap_s}
 use Rattle.integer.specs.Range.{pick, in_signed}
 use Rattle.shift.specs.Shift.{shl_over, shl_over_u}
-use Rattle.integer.specs.declared.Whole.{Whole}
-use Rattle.integer.specs.declared.Whole.TheVariants as W
-use Rattle.shift.specs.declared.Signed.{Signed}
-use Rattle.shift.specs.declared.Signed.TheVariants as I
-use Rattle.shift.specs.declared.Unsigned.{Unsigned}
-use Rattle.shift.specs.declared.Unsigned.TheVariants as U
 use Rattle.value.specs.declared.Scalar.{Scalar}
 use Rattle.value.specs.declared.Scalar.TheVariants.{Bool as bool, AbstractInt, AbstractFloat, I32, U32, F32, F16}
 use Rattle.value.specs.declared.ShaderStage.{ShaderStage}
-use Rattle.value.specs.declared.Found.{Found}
-use Rattle.value.specs.declared.Found.TheVariants.{Value, Nothing}
 use Rattle.bitwise.specs.Bits.{on_integer}
 use Rattle.value.specs.Answer.{Result, value, shift_refused, binary, strict}
 use Rattle.value.specs.Refusals as No
@@ -96,25 +88,12 @@ by_scalar (U32 n) by = by n
 by_scalar (F32 x) by = binary
 by_scalar (F16 x) by = binary
 
-abbrev pub by_count : Found → (ℕ → Result) → Result
-by_count (Value s) by = by_scalar s by
-by_count Nothing by = binary
+abbrev pub by_count : Option Scalar → (ℕ → Result) → Result
+by_count (Some s) by = by_scalar s by
+by_count None by = binary
 
-abbrev pub shl_of : ShaderStage → Scalar → Found → Result
+abbrev pub shl_of : ShaderStage → Scalar → Option Scalar → Result
 shl_of stage l count = by_count count (shl_by stage l)
 
-abbrev pub shr_of : ShaderStage → Scalar → Found → Result
+abbrev pub shr_of : ShaderStage → Scalar → Option Scalar → Result
 shr_of stage l count = by_count count (shr_by stage l)
-
--- what the product of a left shift of l, or that it is over, answers
-abbrev pub whole_shl : Scalar → Whole → ℕ → Result
-whole_shl l (W.Value x) n = value (AbstractInt x)
-whole_shl l W.Over n = shl_overflow n l
-
-abbrev pub signed_shl : Scalar → Signed → ℕ → Result
-signed_shl l (I.Value x) n = value (I32 x)
-signed_shl l I.Over n = shl_overflow n l
-
-abbrev pub unsigned_shl : Scalar → Unsigned → ℕ → Result
-unsigned_shl l (U.Value x) n = value (U32 x)
-unsigned_shl l U.Over n = shl_overflow n l

@@ -17,8 +17,9 @@ use Rattle.operand.specs.Outcome.{refused_with}
 use Rattle.operand.proofs.Answers.{Answers, Value, Refusing}
 use Rattle.dispatch.specs.Meaning.{refuse_unless}
 use Rattle.dispatch.proofs.Outcomes.{Outcomes}
+use Rattle.std.specs.Prelude.{Result, Ok, Err}
+use Rattle.low.specs.declared.Refused.{Refused}
 use Rattle.sheet.specs.declared.Head.{Head}
-use Rattle.sheet.specs.declared.Head.TheVariants as head
 use Rattle.sheet.specs.declared.Kind.{Kind}
 use Rattle.sheet.specs.declared.Kind.TheVariants as kind
 use Rattle.sheet.specs.Tree.{Expr, literal, unary, binary, Entry, setting, expression, entry_stage}
@@ -126,11 +127,11 @@ unfolding placed_from
 placed_within m n start (found a e) h l = omega (arith, h, l)
 placed_within m n start (refused k p) h l = (h.0, omega (arith, h.1, l))
 
-abbrev HeadWithin : ℕ → Head → Type 0
-HeadWithin m (head.Record stage start len) = start + len ≤ m
-HeadWithin m (head.Refused k p) = (k ≤ 32) × (p ≤ m)
+abbrev HeadWithin : ℕ → Result Head Refused → Type 0
+HeadWithin m (Ok h) = h.start + h.len ≤ m
+HeadWithin m (Err r) = (r.number ≤ 32) × (r.place ≤ m)
 
-must_head : (m : ℕ) (t : Bool) (r x : Head) → HeadWithin m r → (t ≡ true → HeadWithin m x) → HeadWithin m (must t r x)
+must_head : (m : ℕ) (t : Bool) (r x : Result Head Refused) → HeadWithin m r → (t ≡ true → HeadWithin m x) → HeadWithin m (must t r x)
 unfolding must
 must_head m true r x h f = f refl
 must_head m false r x h f = h
@@ -151,11 +152,11 @@ record_within : (e : Edition) (stages s : List ℕ) (at : ℕ) → at ≤ length
 unfolding read_record
 record_within e stages s at l = go (read_head s at) (head_within s at l)
   where
-    go : (h : Head) → HeadWithin (length s) h → Within (length s) (on_head e h stages s)
-    go (head.Record stage start len) h =
-        placed_within (length s) (length (part s start len)) start (read_body e stages stage (part s start len)) (body_within e (part s start len) stages stage)
-        (omega (arith, h, body_long s start len))
-    go (head.Refused k p) h = h
+    go : (h : Result Head Refused) → HeadWithin (length s) h → Within (length s) (on_head e h stages s)
+    go (Ok r) h =
+        placed_within (length s) (length (part s r.start r.len)) r.start (read_body e stages r.stage (part s r.start r.len)) (body_within e (part s r.start r.len) stages r.stage)
+        (omega (arith, h, body_long s r.start r.len))
+    go (Err r) h = h
 
 -- ---- a sheet
 records_within : (e : Edition) (room : ℕ) (s : List ℕ) (done : List Entry) (at : ℕ) → at ≤ length s → Within (length s) (read_records e room s done at)

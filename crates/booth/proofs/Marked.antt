@@ -1,7 +1,7 @@
 -- The marks of a change: their bytes one after another, and what the call leaves.
 use Prim.Native.Nat.{ℕ, zero, suc, ◌+◌, ◌≤◌, ◌<◌}
 use mathlib.Core.Path.{◌≡◌, refl, sym, ap, ◌∙◌}
-use mathlib.Core.Bool.{Bool, true, false, ◌&&◌, ◌||◌}
+use mathlib.Core.Bool.{Bool, true, false, ◌&&◌, ◌||◌, false≢true}
 use mathlib.Core.List.{List, [], ◌∷◌, ◌++◌, append-nil}
 use mathlib.Core.Logic.{◌⊎◌}
 use native.Mathlib.Omega.{arith}
@@ -10,10 +10,11 @@ use lib.Dec.{eqb}
 use lib.ListN.{length, drop, get_or, set, drop_of_length-le}
 use lib.Seq.{drop-cons, set_at, append_snoc}
 use borrow.Author.Tests.{eq-eqb, ne_eqb}
-use Rattle.low.specs.declared.Counted.{Counted}
-use Rattle.low.specs.declared.Counted.TheVariants.{Done, Refused}
+use mir.Val.{bool_byte}
+use Rattle.std.specs.Prelude.{Result, Ok, Err, is_ok}
+use Rattle.low.specs.declared.Refused.{Refused}
 use Rattle.low.specs.Bytes.{up_to}
-use Rattle.low.specs.Read.{Read, found, refused}
+use Rattle.low.specs.Read.{Read, found, refused, refusal}
 use Rattle.low.proofs.Tables.{table_long, table_at}
 use Rattle.value.specs.Pattern.{pick}
 use Rattle.sheet.specs.Sheet.{Sheet, read_sheet, counted_of}
@@ -23,7 +24,7 @@ use Rattle.entries.proofs.Places.{few, refs_past}
 use Rattle.fold.specs.Change.{fault_of, change_answer, change_bytes, change_marks}
 use Rattle.fold.proofs.Answers.{no_fault}
 use Rattle.fold.proofs.Theorems.{demand, marked_only, marked_all}
-use Rattle.booth.specs.Answer.{packed_answer, packed_fold}
+use Rattle.booth.specs.Answer.{packed_fold}
 use Rattle.booth.specs.Marks.{mark_byte, mark_bytes, other_size, marks_answer, marks_results, marks_bytes}
 
 -- ---- the bytes, one after another
@@ -50,6 +51,11 @@ written_more ws l m k v g e q =
     rest : first ++ (mark_byte (get_or ws k false) ∷ []) ++ drop (suc k) l ≡ written (k + 1) ws l
     rest = rw (add-one k)
 
+-- a truth as a number, 1 or 0
+pub byte_lem : (b : Bool) → bool_byte b ≡ mark_byte b
+byte_lem true = refl
+byte_lem false = refl
+
 pub written_all : (ws : List Bool) (l m : List ℕ) → length l ≡ 128 → m ≡ written 128 ws l → m ≡ mark_bytes ws
 unfolding mark_bytes
 written_all ws l m h e =
@@ -57,15 +63,24 @@ written_all ws l m h e =
     e ∙ ap (λ (t : List ℕ). up_to (λ j. mark_byte (get_or ws j false)) 128 ++ t) (drop_of_length-le l g) ∙ append-nil (up_to (λ j. mark_byte (get_or ws j false)) 128)
 
 -- ---- marks of another size
-pub size_refused : (q : Read Sheet) (a : Counted) (n : ℕ) → a ≡ counted_of q → a ≡ Done n → Refused 30 0 ≡ other_size q
+pub size_refused : (q : Read Sheet) (a : Result ℕ Refused) (n : ℕ) → a ≡ counted_of q → a ≡ Ok n → refusal 30 0 ≡ other_size q
 unfolding other_size
 size_refused (found sh m) a n e d = refl
 size_refused (refused k p) a n e d = absurd (let z : ◌≡◌ {A = ℕ} 0 1 = cc in omega arith)
 
-pub sheet_refused : (q : Read Sheet) (a : Counted) (k p : ℕ) → a ≡ counted_of q → a ≡ Refused k p → a ≡ other_size q
+pub sheet_refused : (q : Read Sheet) (a : Result ℕ Refused) (k : Refused) → a ≡ counted_of q → a ≡ Err k → a ≡ other_size q
 unfolding other_size
-sheet_refused (found sh m) a k p e d = absurd (let z : ◌≡◌ {A = ℕ} 0 1 = cc in omega arith)
-sheet_refused (refused j i) a k p e d = e
+sheet_refused (found sh m) a k e d = absurd (let z : ◌≡◌ {A = ℕ} 0 1 = cc in omega arith)
+sheet_refused (refused j i) a k e d = e
+
+-- ---- which answer it was
+pub was_done : (a : Result ℕ Refused) → is_ok a ≡ true → (n : ℕ) × (a ≡ Ok n)
+was_done (Ok n) h = (n, refl)
+was_done (Err k) h = absurd (false≢true h)
+
+pub was_refused : (a : Result ℕ Refused) → is_ok a ≡ false → (k : Refused) × (a ≡ Err k)
+was_refused (Ok n) h = absurd (false≢true (sym h))
+was_refused (Err k) h = (k, refl)
 
 -- ---- what the call leaves
 same_up : (f g : ℕ → ℕ) (n : ℕ) → ((k : ℕ) → k < n → f k ≡ g k) → up_to f n ≡ up_to g n
@@ -85,26 +100,26 @@ module _ (l : List ℕ) (i ty bits : ℕ) (m : List ℕ) where
   kept_size (refused k p) e = refl
 
   -- so do those of a refused change
-  kept_refused : (q : Read Sheet) (k p : ℕ) → change_answer q l i ty bits ≡ Refused k p → m ≡ marks_bytes q l i ty bits m
+  kept_refused : (q : Read Sheet) (k : Refused) → change_answer q l i ty bits ≡ Err k → m ≡ marks_bytes q l i ty bits m
   unfolding change_answer marks_bytes
-  kept_refused (found sh n) k p e = go (eqb (length m) 128) (eqb (fault_of sh (length l) i ty bits) 0) e
+  kept_refused (found sh n) k e = go (eqb (length m) 128) (eqb (fault_of sh (length l) i ty bits) 0) e
     where
       go : (b t : Bool)
-          → pick t (Done (tally (depends (refs_of sh) i) (length sh.entries))) (Refused (fault_of sh (length l) i ty bits) 0) ≡ Refused k p
+          → pick t (Ok (tally (depends (refs_of sh) i) (length sh.entries))) (refusal (fault_of sh (length l) i ty bits) 0) ≡ Err k
           → m ≡ pick (b && t) (up_to (λ j. mark_byte (touched (refs_of sh) i j)) 128) m
       go b true h = absurd (let z : ◌≡◌ {A = ℕ} 0 1 = cc in omega arith)
       go true false h = refl
       go false false h = refl
-  kept_refused (refused j o) k p e = refl
+  kept_refused (refused j o) k e = refl
 
   -- those of a change that is done are the entries that it marks
-  taken : (q : Read Sheet) (n : ℕ) (ws : List Bool) → change_answer q l i ty bits ≡ Done n → eqb (length m) 128 ≡ true
+  taken : (q : Read Sheet) (n : ℕ) (ws : List Bool) → change_answer q l i ty bits ≡ Ok n → eqb (length m) 128 ≡ true
       → mark_bytes (change_marks q l i ty bits ws) ≡ marks_bytes q l i ty bits m
   unfolding change_answer change_marks marks_bytes
   taken (found sh k) n ws e s = rw s (go (eqb (fault_of sh (length l) i ty bits) 0) e)
     where
       go : (t : Bool)
-          → pick t (Done (tally (depends (refs_of sh) i) (length sh.entries))) (Refused (fault_of sh (length l) i ty bits) 0) ≡ Done n
+          → pick t (Ok (tally (depends (refs_of sh) i) (length sh.entries))) (refusal (fault_of sh (length l) i ty bits) 0) ≡ Ok n
           → mark_bytes (pick t (up_to (touched (refs_of sh) i) 128) ws) ≡ pick t (up_to (λ j. mark_byte (touched (refs_of sh) i j)) 128) m
       go true h = bytes_up (touched (refs_of sh) i)
       go false h = absurd (let z : ◌≡◌ {A = ℕ} 0 1 = cc in omega arith)
@@ -114,23 +129,23 @@ module _ (l : List ℕ) (i ty bits : ℕ) (m : List ℕ) where
     abbrev Leaves : ℕ → List ℕ → List ℕ → Type 0
     Leaves r x y = (r ≡ packed_fold (marks_answer q l i ty bits m)) × (x ≡ marks_results q l i ty bits m) × (y ≡ marks_bytes q l i ty bits m)
 
-    pub left_size : (r : ℕ) (a : Counted) → (length m ≡ 128 → ⊥) → a ≡ other_size q → r ≡ packed_fold a → Leaves r l m
+    pub left_size : (r : ℕ) (a : Result ℕ Refused) → (length m ≡ 128 → ⊥) → a ≡ other_size q → r ≡ packed_fold a → Leaves r l m
     unfolding marks_answer marks_results
     left_size r a s e h =
         let f = ne_eqb (length m) 128 s in
         (rw f (h ∙ ap packed_fold e), rw f, kept_size q f)
 
-    module _ (r : ℕ) (a : Counted) (x : List ℕ) (s : length m ≡ 128) (e : a ≡ change_answer q l i ty bits) (c : x ≡ change_bytes q l i ty bits) where
-      pub left_refused : (k p : ℕ) → a ≡ Refused k p → r ≡ packed_fold a → Leaves r x m
+    module _ (r : ℕ) (a : Result ℕ Refused) (x : List ℕ) (s : length m ≡ 128) (e : a ≡ change_answer q l i ty bits) (c : x ≡ change_bytes q l i ty bits) where
+      pub left_refused : (k : Refused) → a ≡ Err k → r ≡ packed_fold a → Leaves r x m
       unfolding marks_answer marks_results
-      left_refused k p d h = let f = eq-eqb (length m) 128 s in (rw f (h ∙ ap packed_fold e), rw f c, kept_refused q k p (sym e ∙ d))
+      left_refused k d h = let f = eq-eqb (length m) 128 s in (rw f (h ∙ ap packed_fold e), rw f c, kept_refused q k (sym e ∙ d))
 
-      pub left_done : (n : ℕ) (vs ws : List Bool) (y : List ℕ) → a ≡ Done n → r ≡ packed_answer 0 n → ws ≡ change_marks q l i ty bits vs → y ≡ mark_bytes ws
+      pub left_done : (n : ℕ) (vs ws : List Bool) (y : List ℕ) → a ≡ Ok n → r ≡ packed_fold a → ws ≡ change_marks q l i ty bits vs → y ≡ mark_bytes ws
           → Leaves r x y
       unfolding marks_answer marks_results
       left_done n vs ws y d h w o =
           let f = eq-eqb (length m) 128 s in
-          (rw f (h ∙ ap packed_fold (sym d ∙ e)), rw f c, o ∙ ap mark_bytes w ∙ taken q n vs (sym e ∙ d) f)
+          (rw f (h ∙ ap packed_fold e), rw f c, o ∙ ap mark_bytes w ∙ taken q n vs (sym e ∙ d) f)
 
 -- ---- what a byte says of a change that is done
 marked_is : (b : Bool) → mark_byte b ≡ 1 → b ≡ true

@@ -6,9 +6,9 @@ use mathlib.Core.List.{List}
 use native.Mathlib.Omega.{arith}
 use lib.Dec.{eqb}
 use lib.ListN.{length}
-use Rattle.low.specs.declared.Counted.{Counted}
-use Rattle.low.specs.declared.Counted.TheVariants.{Done, Refused}
-use Rattle.low.specs.Read.{Read, found, refused, must}
+use Rattle.std.specs.Prelude.{Result, Ok, Err}
+use Rattle.low.specs.declared.Refused.{Refused}
+use Rattle.low.specs.Read.{Read, found, refused, must, refusal}
 use Rattle.value.specs.Pattern.{pick}
 use Rattle.operand.specs.declared.Instance.{Instance}
 use Rattle.operand.specs.declared.Outcome.{Outcome}
@@ -33,11 +33,11 @@ pub unpacked : (n d : ℕ) → n < 256 → d < 4294967296 → Says (packed_answe
 unpacked n d h k = (omega (arith, h, k), omega (arith, h, k))
 
 -- ---- calls on a sheet
-abbrev pub Unpacks : Counted → Type 0
-Unpacks (Done n) = Says (packed_fold (Done n)) 0 n
-Unpacks (Refused k p) = Says (packed_fold (Refused k p)) k p
+abbrev pub Unpacks : Result ℕ Refused → Type 0
+Unpacks (Ok n) = Says (packed_fold (Ok n)) 0 n
+Unpacks (Err r) = Says (packed_fold (Err r)) r.number r.place
 
-done : (n : ℕ) → n < 4294967296 → Unpacks (Done n)
+done : (n : ℕ) → n < 4294967296 → Unpacks (Ok n)
 done n h = unpacked 0 n (omega arith) h
 
 pub check_unpacked : (s : List ℕ) → Unpacks (counted_of (read_sheet s))
@@ -51,7 +51,7 @@ fresh_small : (l : List ℕ) (q : Read Sheet) → SheetWithin 16384 q → Unpack
 unfolding fresh_answer must
 fresh_small l (found sh n) h = go (sized sh (length l))
   where
-    go : (t : Bool) → Unpacks (must t (Refused 30 0) (Done (length sh.entries)))
+    go : (t : Bool) → Unpacks (must t (refusal 30 0) (Ok (length sh.entries)))
     go true = done (length sh.entries) (omega (arith, h))
     go false = unpacked 30 0 (omega arith) (omega arith)
 fresh_small l (refused k p) h = unpacked k p (omega (arith, h.0)) (omega (arith, h.1))
@@ -63,7 +63,7 @@ change_small : (l : List ℕ) (i ty bits : ℕ) (q : Read Sheet) → SheetWithin
 unfolding change_answer
 change_small l i ty bits (found sh n) h = go (eqb (fault_of sh (length l) i ty bits) 0)
   where
-    go : (t : Bool) → Unpacks (pick t (Done (tally (depends (refs_of sh) i) (length sh.entries))) (Refused (fault_of sh (length l) i ty bits) 0))
+    go : (t : Bool) → Unpacks (pick t (Ok (tally (depends (refs_of sh) i) (length sh.entries))) (refusal (fault_of sh (length l) i ty bits) 0))
     go true = done (tally (depends (refs_of sh) i) (length sh.entries)) (omega (arith, h, tally_small (depends (refs_of sh) i) (length sh.entries)))
     go false = unpacked (fault_of sh (length l) i ty bits) 0 (omega (arith, fault_small sh (length l) i ty bits)) (omega arith)
 change_small l i ty bits (refused k p) h = unpacked k p (omega (arith, h.0)) (omega (arith, h.1))

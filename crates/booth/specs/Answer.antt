@@ -1,7 +1,6 @@
 -- What an exported function answers.
-use Rattle.std.specs.Prelude.{ℕ, ◌+◌, ◌*◌, ◌/◌, ◌%◌}
-use Rattle.low.specs.declared.Counted.{Counted}
-use Rattle.low.specs.declared.Counted.TheVariants.{Done, Refused}
+use Rattle.std.specs.Prelude.{ℕ, ◌+◌, ◌*◌, ◌/◌, ◌%◌, Result, Ok, Err}
+use Rattle.low.specs.declared.Refused.{Refused}
 
 -- the number in bits 32 to 39, the detail in bits 0 to 31
 abbrev pub packed_answer : ℕ → ℕ → ℕ
@@ -15,6 +14,6 @@ abbrev pub detail_in : ℕ → ℕ
 detail_in answer = answer % 4294967296
 
 -- success has the number 0
-abbrev pub packed_fold : Counted → ℕ
-packed_fold (Done n) = packed_answer 0 n
-packed_fold (Refused number place) = packed_answer number place
+abbrev pub packed_fold : Result ℕ Refused → ℕ
+packed_fold (Ok n) = packed_answer 0 n
+packed_fold (Err r) = packed_answer r.number r.place

@@ -1,9 +1,8 @@
 -- The change that also tells which entries' slots it worked, a byte for each of 128 entries.
-use Rattle.std.specs.Prelude.{ℕ, Bool, false, ◌&&◌, List, eqb, length, get_or}
-use Rattle.low.specs.declared.Counted.{Counted}
-use Rattle.low.specs.declared.Counted.TheVariants.{Refused}
+use Rattle.std.specs.Prelude.{ℕ, Bool, false, ◌&&◌, List, eqb, length, get_or, Result}
+use Rattle.low.specs.declared.Refused.{Refused}
 use Rattle.low.specs.Bytes.{up_to}
-use Rattle.low.specs.Read.{Read, found, refused}
+use Rattle.low.specs.Read.{Read, found, refused, refusal}
 use Rattle.value.specs.Pattern.{pick}
 use Rattle.value.specs.Refusals as No
 use Rattle.sheet.specs.Sheet.{Sheet}
@@ -16,12 +15,12 @@ abbrev pub mark_byte : Bool → ℕ
 mark_byte worked = pick worked 1 0
 
 -- marks of another size are ResultsSize; the sheet's own refusals come before that
-unfoldable pub other_size : Read Sheet → Counted
-other_size (found sh n) = Refused No.ResultsSize 0
-other_size (refused k p) = Refused k p
+unfoldable pub other_size : Read Sheet → Result ℕ Refused
+other_size (found sh n) = refusal No.ResultsSize 0
+other_size (refused k p) = refusal k p
 
 -- what the call answers: with marks of 128 bytes what the change does
-unfoldable pub marks_answer : Read Sheet → List ℕ → ℕ → ℕ → ℕ → List ℕ → Counted
+unfoldable pub marks_answer : Read Sheet → List ℕ → ℕ → ℕ → ℕ → List ℕ → Result ℕ Refused
 marks_answer q l i ty bits m = pick (eqb (length m) 128) (change_answer q l i ty bits) (other_size q)
 
 -- the results afterwards

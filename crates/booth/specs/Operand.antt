@@ -1,5 +1,5 @@
 -- The operands and answers of the direct calls, as bytes.
-use Rattle.std.specs.Prelude.{ℕ, ◌+◌, ◌*◌, Bool, ◌&&◌, ◌||◌, List, eqb, length, get_or, replicate}
+use Rattle.std.specs.Prelude.{ℕ, ◌+◌, ◌*◌, Bool, ◌&&◌, ◌||◌, List, eqb, length, get_or, replicate, Option, Some, None}
 use Rattle.low.specs.Bytes.{whole, part, numbers}
 use Rattle.types.specs.Types.{known_of}
 use Rattle.value.specs.Answer.{carries}
@@ -11,8 +11,6 @@ use Rattle.operand.specs.Operand.{shape_ok}
 use Rattle.dispatch.specs.Meaning.{refuse_unless}
 use Rattle.slot.specs.Slot.{bytes_of}
 use Rattle.booth.specs.Answer.{packed_answer}
-use Rattle.booth.specs.declared.direct.One.{One}
-use Rattle.booth.specs.declared.direct.One.TheVariants as O
 
 -- no operand: its type is unknown and it has no shape, so that it is malformed
 abbrev pub no_operand : Instance
@@ -49,10 +47,10 @@ direct_bytes slot o = pick (fills (into_slot slot o).status) (bytes_of o) slot
 
 -- ---- for the contracts of private functions
 -- a scalar by its type and pattern: 11 bytes, a known type, one column and one row
-unfoldable pub scalar_in : List ℕ → One
+unfoldable pub scalar_in : List ℕ → Option (ℕ × ℕ)
 scalar_in b =
     pick (eqb (length b) 11)
     (pick (known_of (get_or b 0 0) && eqb (get_or b 1 0) 1 && eqb (get_or b 2 0) 1)
-    (O.Scalar (get_or b 0 0) (whole (part b 3 8)))
-    O.Other)
-    O.Other
+    (Some (get_or b 0 0, whole (part b 3 8)))
+    None)
+    None

@@ -4,22 +4,8 @@ ghost use Rattle.dispatch.specs.Meaning.{binary_meaning};
 ghost use Rattle.booth.specs.Operand.{no_operand, operand_in, call_refused, fills, direct_answer, direct_bytes, scalar_in};
 
 use crate::pack;
-use operand::{Instance, Outcome};
+use operand::{Instance, Outcome, Shape};
 use value::refusals;
-
-// A scalar by its type and pattern, or other bytes.
-#[derive(Clone, Copy)]
-pub(crate) enum One {
-    Scalar(u8, u64),
-    Other,
-}
-
-// How many components a shape has.
-fn area(cols: u8, rows: u8) -> usize
-    ensures { (result ≡ cols * rows) × (result ≤ 65025) }
-{
-    (cols as usize) * (rows as usize)
-}
 
 // No operand: its type is unknown and it has no shape.
 fn no_operand() -> Instance
@@ -43,7 +29,7 @@ pub(crate) fn operand(b: &[u8]) -> Instance
     if !operand::shape_ok(ty, cols, rows) {
         return no_operand();
     }
-    if b.len() != 3 + 8 * area(cols, rows) {
+    if b.len() != 3 + 8 * operand::count(Shape { cols, rows }) {
         return no_operand();
     }
     let comps = low::numbers(low::part(b, 3, 128));
@@ -55,17 +41,17 @@ pub(crate) fn operand(b: &[u8]) -> Instance
     }
 }
 
-// The scalar in bytes: a known type, one column, one row, and 8 bytes. The length is judged first, so that the bytes are there.
-pub(crate) fn one_in(b: &[u8]) -> One
+// The type and pattern of the scalar in bytes: a known type, one column, one row, and 8 bytes. The length is judged first, so that the bytes are there.
+pub(crate) fn one_in(b: &[u8]) -> Option<(u8, u64)>
     ensures { result ≡ scalar_in b.now }
 {
     if b.len() != 11 {
-        return One::Other;
+        return None;
     }
     if !(types::known(b[0]) & (b[1] == 1) & (b[2] == 1)) {
-        return One::Other;
+        return None;
     }
-    One::Scalar(b[0], low::number(low::part(b, 3, 8)))
+    Some((b[0], low::number(low::part(b, 3, 8))))
 }
 
 // Whether the call itself is refused: its operator, its stage or an operand.

@@ -14,23 +14,22 @@ ghost use Rattle.booth.specs.Answer.{packed_answer, packed_fold};
 ghost use Rattle.booth.specs.Marks.{marks_answer, marks_results, marks_bytes};
 ghost use Rattle.booth.specs.Operand.{operand_in, direct_answer, direct_bytes};
 
-use direct::One;
-use low::Counted;
+use low::Refused;
 
 // A number and its detail in one.
 fn pack(number: u8, detail: u64) -> u64
     ensures { result ≡ packed_answer number detail }
 {
-    (number as u64) * 0x1_0000_0000 + detail % 0x1_0000_0000
+    u64::from(number) * 0x1_0000_0000 + detail % 0x1_0000_0000
 }
 
 // The answer of a call on a sheet in one number.
-fn pack_fold(answer: Counted) -> u64
+fn pack_fold(answer: Result<usize, Refused>) -> u64
     ensures { result ≡ packed_fold answer }
 {
     match answer {
-        Counted::Done(n) => pack(0, n as u64),
-        Counted::Refused(number, place) => pack(number, place as u64),
+        Ok(n) => pack(0, n as u64),
+        Err(refused) => pack(refused.number, refused.place as u64),
     }
 }
 
@@ -41,7 +40,7 @@ pub extern "C" fn wgsl_unary(op: u8, stage: u8, operand: &[u8], slot: &mut [u8])
     ensures { (result ≡ direct_answer slot.old (unary_meaning op stage (operand_in operand.now)))
         × (slot.new ≡ direct_bytes slot.old (unary_meaning op stage (operand_in operand.now))) }
 {
-    let One::Scalar(ty, bits) = direct::one_in(operand) else {
+    let Some((ty, bits)) = direct::one_in(operand) else {
         return direct::settle(slot, shape::unary(op, stage, direct::operand(operand)));
     };
     direct::settle(slot, shape::unary_scalar(op, stage, ty, bits))
@@ -53,10 +52,7 @@ pub extern "C" fn wgsl_binary(op: u8, stage: u8, left: &[u8], right: &[u8], slot
     ensures { (result ≡ direct_answer slot.old (binary_meaning op stage (operand_in left.now) (operand_in right.now)))
         × (slot.new ≡ direct_bytes slot.old (binary_meaning op stage (operand_in left.now) (operand_in right.now))) }
 {
-    let One::Scalar(lt, l) = direct::one_in(left) else {
-        return direct::general(op, stage, left, right, slot);
-    };
-    let One::Scalar(rt, r) = direct::one_in(right) else {
+    let (Some((lt, l)), Some((rt, r))) = (direct::one_in(left), direct::one_in(right)) else {
         return direct::general(op, stage, left, right, slot);
     };
     direct::settle(slot, shape::binary_scalars(op, stage, lt, l, rt, r))
@@ -67,8 +63,7 @@ pub extern "C" fn wgsl_binary(op: u8, stage: u8, left: &[u8], right: &[u8], slot
 pub extern "C" fn sheet_check(sheet: &[u8]) -> u64
     ensures { result ≡ packed_fold (counted_of (read_sheet sheet.now)) }
 {
-    let checked = fold::check(sheet);
-    pack_fold(checked)
+    pack_fold(fold::check(sheet))
 }
 
 // Fresh evaluation of a sheet over its results. The detail is the number of entries.
@@ -77,8 +72,7 @@ pub extern "C" fn sheet_fresh(sheet: &[u8], results: &mut [u8]) -> u64
     ensures { (result ≡ packed_fold (fresh_answer (read_sheet sheet.now) results.old))
         × (results.new ≡ fresh_bytes (read_sheet sheet.now) results.old) }
 {
-    let filled = fold::evaluate(sheet, results);
-    pack_fold(filled)
+    pack_fold(fold::evaluate(sheet, results))
 }
 
 // New content for a setting. The detail is the number of entries that depend on it.
@@ -116,9 +110,8 @@ pub extern "C" fn sheet_change_marks(
     }
     let mut worked = [false; 128];
     let answer = fold::change_marking(sheet, results, entry, ty, bits, &mut worked);
-    let Counted::Done(n) = answer else {
-        return pack_fold(answer);
-    };
-    marks::put(marks, &worked);
-    pack(0, n as u64)
+    if answer.is_ok() {
+        marks::put(marks, &worked);
+    }
+    pack_fold(answer)
 }

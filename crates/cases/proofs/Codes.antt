@@ -10,7 +10,7 @@ use Rattle.low.specs.Bytes.{whole, part}
 use Rattle.types.proofs.Choice.{Misses, past_one}
 use Rattle.value.specs.declared.Scalar.{Scalar}
 use Rattle.value.specs.declared.ShaderStage.{ShaderStage}
-use Rattle.value.specs.declared.Found.{Found}
+use Rattle.std.proofs.Common.{Option}
 use Rattle.value.specs.Answer.{Result, stage_of}
 use Rattle.value.specs.Scalar.{scalar_of}
 use Rattle.conversion.specs.Convert.{common_of}
@@ -36,7 +36,7 @@ other_binary stage l r op m h k = go (eqb op 16) refl
 
 -- ---- operands and values
 -- the scalar that an operand is found to be
-pub scalar_found_lem : (o p : List ℕ) (t b : ℕ) (f : Found) → t ≡ get_or o 0 0 → p ≡ part o 4 8 → b ≡ whole (part p 0 8) → f ≡ scalar_of t b → scalar_found f ≡ scalar_read o
+pub scalar_found_lem : (o p : List ℕ) (t b : ℕ) (f : Option Scalar) → t ≡ get_or o 0 0 → p ≡ part o 4 8 → b ≡ whole (part p 0 8) → f ≡ scalar_of t b → scalar_found f ≡ scalar_read o
 unfolding scalar_read
 scalar_found_lem o p t b f et ep eb ef = ap scalar_found (ef ∙ (λ i. scalar_of (et i) (number_at_lem o 4 p b ep eb i)))
 

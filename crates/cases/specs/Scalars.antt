@@ -1,10 +1,9 @@
 -- Operators on scalars by their codes in a record, and what of their results a record says. Assumes nothing.
-use Rattle.std.specs.Prelude.{ℕ, Bool, false, ◌&&◌, List, [], ◌∷◌, eqb, get_or}
+use Rattle.std.specs.Prelude.{ℕ, Option, Bool, false, ◌&&◌, List, [], ◌∷◌, eqb, get_or}
+use Rattle.std.specs.Option.{unwrap_or}
 use Rattle.value.specs.declared.Scalar.{Scalar}
 use Rattle.value.specs.declared.Scalar.TheVariants.{Bool as bool}
 use Rattle.value.specs.declared.ShaderStage.{ShaderStage}
-use Rattle.value.specs.declared.Found.{Found}
-use Rattle.value.specs.declared.Found.TheVariants as F
 use Rattle.value.specs.Answer.{Result, number_of, detail_of, scalar_in}
 use Rattle.value.specs.Scalar.{type_of, bits_of, scalar_of}
 use Rattle.value.specs.Pair.{pair_of}
@@ -37,9 +36,8 @@ unfoldable pub binary_by : ℕ → ShaderStage → Scalar → Scalar → Result
 binary_by op stage l r = get_or (bit_xor_of (common_of l r) ∷ binary_results stage l r) op (bit_xor_of (common_of l r))
 
 -- the scalar that is an operand, of its type and its pattern; a list of scalars has no other operand, and any other is taken as false
-abbrev pub scalar_found : Found → Scalar
-scalar_found (F.Value s) = s
-scalar_found F.Nothing = bool false
+abbrev pub scalar_found : Option Scalar → Scalar
+scalar_found f = unwrap_or f (bool false)
 
 unfoldable pub scalar_read : List ℕ → Scalar
 scalar_read o = scalar_found (scalar_of (get_or o 0 0) (number_at o 4))

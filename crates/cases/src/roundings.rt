@@ -2,27 +2,27 @@
 ghost use Rattle.std.specs.Prelude.{◌≡◌};
 ghost use Rattle.cases.specs.Judged.{conversion_of, rounding_right};
 
-use integer::patterns::i64_of_bits;
+use rounding::Float;
 
 // What the crate `rounding` answers: a number in another format, the bits under which one is kept, or whether it is finite. No other
 // code asks anything.
 fn answer(what: u8, x: u64) -> u64
     ensures { result ≡ conversion_of what x }
 {
-    let w = (x % 0x1_0000_0000) as u32;
+    let w = x % 0x1_0000_0000;
     let h = (x % 0x1_0000) as u16;
     match what {
-        1 => rounding::f64_to_half(rounding::f64_of_bits(x)) as u64,
-        2 => rounding::f32_bits(rounding::f64_to_f32(rounding::f64_of_bits(x))) as u64,
-        3 => rounding::f32_to_half(rounding::f32_of_bits(w)) as u64,
-        4 => rounding::f32_bits(rounding::half_to_f32(h)) as u64,
-        5 => rounding::i64_to_half(i64_of_bits(x)) as u64,
-        6 => rounding::f32_bits(rounding::i64_to_f32(i64_of_bits(x))) as u64,
-        7 => rounding::f64_bits(rounding::i64_to_f64(i64_of_bits(x))),
-        8 => rounding::f32_bits(rounding::f32_of_bits(w)) as u64,
-        9 => rounding::f64_bits(rounding::f64_of_bits(x)),
-        10 => rounding::finite_f32(rounding::f32_of_bits(w)) as u64,
-        11 => rounding::finite_f64(rounding::f64_of_bits(x)) as u64,
+        1 => rounding::f64_to_half(f64::of_bits(x)) as u64,
+        2 => rounding::f64_to_f32(f64::of_bits(x)).bits(),
+        3 => rounding::f32_to_half(f32::of_bits(w)) as u64,
+        4 => rounding::half_to_f32(h).bits(),
+        5 => rounding::i64_to_half(x.cast_signed()) as u64,
+        6 => rounding::i64_to_f32(x.cast_signed()).bits(),
+        7 => rounding::i64_to_f64(x.cast_signed()).bits(),
+        8 => f32::of_bits(w).bits(),
+        9 => f64::of_bits(x).bits(),
+        10 => Float::is_finite(f32::of_bits(w)) as u64,
+        11 => Float::is_finite(f64::of_bits(x)) as u64,
         12 => rounding::finite_half(h) as u64,
         _ => 0,
     }

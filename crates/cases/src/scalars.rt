@@ -8,13 +8,16 @@ use crate::answers;
 use bitwise::{bits, shifts};
 use relation::{comparison, logical};
 use value::pattern::{bits_of, scalar_of};
-use value::{Answer, Found, Scalar, ShaderStage, said, type_of};
+use value::{Answer, Scalar, ShaderStage, said, type_of};
 
 // An answer's number and detail, packed as C has them.
 fn packed(a: Answer) -> u64
     ensures { result ≡ packed_result (answer_of a) }
 {
-    (said::number(a) as u64) * 0x1_0000_0000 + said::detail(a) as u64
+    match a {
+        Ok(_) => 0,
+        Err(e) => (e.number() as u64) * 0x1_0000_0000 + e.detail() as u64,
+    }
 }
 
 // The unary operator of a code; every other code is taken as 3.
@@ -76,10 +79,7 @@ fn scalar_in(operand: &[u8]) -> Scalar
     ensures { result ≡ scalar_read operand.now }
 {
     let bits = low::number(low::part(operand, 4, 8));
-    let Found::Value(s) = scalar_of(low::byte(operand, 0), bits) else {
-        return Scalar::Bool(false);
-    };
-    s
+    scalar_of(low::byte(operand, 0), bits).unwrap_or(Scalar::Bool(false))
 }
 
 // A record: kind (1 unary, 2 binary), operator, stage, one or two scalars of twelve bytes, and what must come out.

@@ -28,21 +28,20 @@ use Rattle.fold.specs.Change.{content, fault_of, with_content, changed, change_a
 use Rattle.words.specs.Spelling.{low_digit, letter_digit, digit_of, onwards, digits_only, spelled}
 use Rattle.words.specs.Split.{before, behind, word_at, word_count}
 use Rattle.text.specs.Text.{ascii, decimals, dec, hex, spaced, shown, line, lines, entries, listing, refusal_line}
-use Rattle.asked.specs.declared.asked.Asked.{Asked}
-use Rattle.asked.specs.declared.asked.Asked.TheVariants.{Change}
-use Rattle.asked.specs.Asked.{dash_v, verbose, sheet_at, words_after, numbered, asked_at, asked_from, first_bad}
+use Rattle.std.proofs.Common.{Ok}
+use Rattle.asked.specs.Asked.{Asked, dash_v, verbose, sheet_at, words_after, spelled_in, code_of, asked_at, asked_from, first_bad}
 use Rattle.command.specs.Listing as text
-use Rattle.command.specs.Listing.{page, moved_page, change_page, after_change, change_pages, entries_of, pages, judged_text, listing_of}
+use Rattle.command.specs.Listing.{page, moved_page, change_page, after_change, change_pages, entries_of, pages, unless_bad, judged_text, listing_of}
 
 abbrev words : List ℕ
 words = ascii "SHEET\0" ++ ascii "0\0" ++ ascii "4\0" ++ ascii "20\0"
 
 abbrev asked : List Asked
-asked = Change 0 4 32 ∷ []
+asked = Ok (record { entry = 0; ty = 4; bits = 32 }) ∷ []
 
 -- the words ask for one change of the sheet
 words_ask : listing_of words true bytes ≡ pages false (read_sheet bytes) asked
-unfolding listing_of judged_text must dash_v verbose sheet_at words_after numbered asked_at asked_from first_bad before behind word_at word_count low_digit letter_digit
+unfolding listing_of judged_text unless_bad must dash_v verbose sheet_at words_after spelled_in code_of asked_at asked_from first_bad before behind word_at word_count low_digit letter_digit
     digit_of onwards digits_only spelled
 words_ask = refl
 

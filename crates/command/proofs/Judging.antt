@@ -3,8 +3,9 @@ use mathlib.Core.Path.{◌≡◌, refl, sym, ap, ◌∙◌}
 use mathlib.Core.Logic.{⊎_elim}
 use mathlib.Core.Bool.{Bool, true, false, not, cond}
 use mathlib.Core.List.{List, [], ◌∷◌}
-use Prim.Native.Nat.{ℕ, suc, ◌+◌, ◌-◌, ◌/◌, ◌%◌, ◌≤◌, ◌<◌}
+use Prim.Native.Nat.{ℕ, suc, ◌+◌, ◌-◌, ◌/◌, ◌%◌, ◌≤◌, ◌<◌, min}
 use native.Mathlib.Omega.{arith}
+use Rattle.std.proofs.Common.{Option, Some, None}
 use lib.Dec.{eqb}
 use lib.ListN.{length, take, length-take}
 use lib.Seq.{take_all}
@@ -18,7 +19,7 @@ use Rattle.words.specs.Split.{word_at, word_count}
 use Rattle.text.specs.Text.{Put, ascii}
 use Rattle.asked.specs.Asked.{verbose, sheet_at, words_after, asked_from, first_bad}
 use Rattle.command.specs.Inside.{fitting, Shows}
-use Rattle.command.specs.Listing.{usage, complaint, too_much, pages, judged_text, listing_of, printed}
+use Rattle.command.specs.Listing.{usage, complaint, too_much, unless_bad, pages, judged_text, listing_of, printed}
 
 -- no more words than bytes
 pub count_short : (l : List ℕ) → word_count l ≤ length l
@@ -46,22 +47,22 @@ module _ (line : List ℕ) (readable : Bool) (bytes : List ℕ) (first after : �
   unfolding judged_text must
   said_too_few h w e = rw (← p, ← q, ne_eqb (after % 3) 0 h, e)
 
-  module _ (even : after % 3 ≡ 0) (bad : ℕ) (f : bad ≡ first_bad (asked_from (after / 3) line (first + 1))) where
-    pub said_bad : (bad ≡ 0 → ⊥) → (w : List ℕ) → w ≡ word_at bad line → complaint (ascii "bad word ") w ≡ judged_text line readable bytes
-    unfolding judged_text must
-    said_bad h w e = rw (← p, ← q, eq-eqb (after % 3) 0 even, ← f, ne_eqb bad 0 h, e)
+  module _ (even : after % 3 ≡ 0) (bad : Option ℕ) (f : bad ≡ first_bad (asked_from (after / 3) line (first + 1))) where
+    pub said_bad : (k : ℕ) → bad ≡ Some k → (w : List ℕ) → w ≡ word_at k line → complaint (ascii "bad word ") w ≡ judged_text line readable bytes
+    unfolding judged_text unless_bad must
+    said_bad k h w e = rw (← p, ← q, eq-eqb (after % 3) 0 even, ← f, h, e)
 
-    module _ (good : bad ≡ 0) where
+    module _ (good : bad ≡ None) where
       pub said_unread : not readable ≡ true → (w : List ℕ) → w ≡ word_at first line
           → complaint (ascii "cannot read ") w ≡ judged_text line readable bytes
-      unfolding judged_text must
-      said_unread h w e = rw (← p, ← q, eq-eqb (after % 3) 0 even, ← f, eq-eqb bad 0 good, not-true readable h, e)
+      unfolding judged_text unless_bad must
+      said_unread h w e = rw (← p, ← q, eq-eqb (after % 3) 0 even, ← f, good, not-true readable h, e)
 
       pub said_pages : not readable ≡ false
           → pages (eqb first 1) (read_sheet bytes) (asked_from (after / 3) line (first + 1)) ≡ judged_text line readable bytes
-      unfolding judged_text must
+      unfolding judged_text unless_bad must
       said_pages h =
-          rw (← p, ← q, eq-eqb (after % 3) 0 even, ← f, eq-eqb bad 0 good, not-false readable h)
+          rw (← p, ← q, eq-eqb (after % 3) 0 even, ← f, good, not-false readable h)
           (ap (λ (v : Bool). pages v (read_sheet bytes) (asked_from (after / 3) line (first + 1))) (ap (λ (k : ℕ). eqb k 1) p ∙ asked_verbose line))
 
 -- the words as a whole
@@ -117,7 +118,7 @@ module _ {l m x y t : List ℕ} {k n : ℕ} (p : Shows l m 0 k too_much) (q : Sh
   long : length l < length t
   long = omega (arith, q.next)
 
-  pub printed_line : k ≤ length l → Put l m 0 k (printed (length l) t)
+  printed_line : k ≤ length l → Put l m 0 k (printed (length l) t)
   unfolding printed must
   printed_line f =
       let all : length too_much ≤ length l = omega (arith, p.next) in
@@ -127,7 +128,7 @@ module _ {l m x y t : List ℕ} {k n : ℕ} (p : Shows l m 0 k too_much) (q : Sh
         next = rw (take_all (length l) too_much all) p.next;
       }
 
-  pub printed_cut : length l ≤ k → (r : ℕ) → r ≡ length l → Put l m 0 r (printed (length l) t)
+  printed_cut : length l ≤ k → (r : ℕ) → r ≡ length l → Put l m 0 r (printed (length l) t)
   unfolding printed must
   printed_cut f r e =
       rw (lt-leb (length t) (length l) long)
@@ -135,3 +136,8 @@ module _ {l m x y t : List ℕ} {k n : ℕ} (p : Shows l m 0 k too_much) (q : Sh
         text = p.text ∙ ap (patch l 0) (room_all l too_much);
         next = omega (arith, p.next, length-take (length l) too_much);
       }
+
+  pub printed_short : (r : ℕ) → r ≡ min k (length l) → Put l m 0 r (printed (length l) t)
+  printed_short r e =
+      ⊎_elim (λ (f : k ≤ length l). let same : r ≡ k = omega arith in rw same (printed_line f))
+      (λ (f : length l < k). printed_cut (omega arith) r (omega arith)) (le_or_lt k (length l))

@@ -1,19 +1,18 @@
 -- Texts one after another in a buffer that may have no room for all of them.
-use mathlib.Core.Path.{◌≡◌, sym, ap, ◌∙◌}
+use mathlib.Core.Path.{◌≡◌, refl, sym, ap, ◌∙◌}
 use mathlib.Core.Logic.{⊎_elim}
-use mathlib.Core.List.{List, [], ◌∷◌, ◌++◌}
-use Prim.Native.Nat.{ℕ, ◌+◌, ◌-◌, ◌≤◌, ◌<◌}
+use mathlib.Core.List.{List, [], ◌++◌}
+use Prim.Native.Nat.{ℕ, ◌+◌, ◌-◌, ◌≤◌, ◌<◌, min}
 use native.Mathlib.Omega.{arith}
 use native.Mathlib.Nat.{add-zero}
-use native.Mathlib.Numerals.{add-one}
-use lib.ListN.{length, take, drop, get_or, set, length-append, length-take}
-use lib.Seq.{take_all, take-nil, take-suc, take-append-add, take-append-le, take-append_seam}
+use lib.ListN.{length, take, drop, length-append, length-take}
+use lib.Seq.{take_all, take-nil, take-append-add, take-append-le, take-append_seam}
 use Rattle.low.specs.Bytes.{patch}
 use Rattle.integer.proofs.Order.{le_or_lt}
 use Rattle.low.proofs.Parts.{patch_none, patch_next, length_patch}
 use Rattle.text.specs.Text.{Put}
-use Rattle.text.proofs.Pieces.{one_byte}
-use Rattle.command.specs.Inside.{fitting, Shows}
+use Rattle.command.specs.declared.show.Show.{Show}
+use Rattle.command.specs.Inside.{fitting, Shows, Adds}
 
 module _ (l : List ℕ) (a : ℕ) (t : List ℕ) where
   -- all of a text that there is room for, and nothing of one behind the buffer
@@ -81,21 +80,10 @@ then {l} {m} {n} {x} {y} {a} {b} {c} p q =
       next = omega (arith, p.next, q.next, length-append x y);
     }
 
--- no text, and one byte
+-- no text
 pub no_text : (l : List ℕ) (a : ℕ) → Shows l l a a []
 unfolding fitting
 no_text l a = record { text = rw (take-nil {A = ℕ} (length l - a)) (patch_none l a); next = sym (add-zero a) }
-
-pub byte_there : (l : List ℕ) (a c : ℕ) → a < length l → set l a c ≡ patch l a (fitting l a (c ∷ []))
-byte_there l a c h = (one_byte l a c h).text ∙ ap (patch l a) (sym (fits_all l a (c ∷ []) (omega arith)))
-
--- one byte more of a text
-pub byte_more : (l m n s : List ℕ) (a i : ℕ) → i < length s → Shows l m a (a + i) (take i s)
-    → n ≡ patch m (a + i) (fitting m (a + i) (get_or s i 0 ∷ [])) → Shows l n a (a + (i + 1)) (take (i + 1) s)
-byte_more l m n s a i h p q =
-    let e : a + i + 1 ≡ a + (i + 1) = omega arith in
-    let one : Shows m n (a + i) (a + (i + 1)) (get_or s i 0 ∷ []) = record { text = q; next = omega arith } in
-    rw (add-one i, take-suc s i 0 h, ← add-one i) (then p one)
 
 -- a page made at the start of a buffer
 pub page_text : {l m t : List ℕ} {n : ℕ} → Put l m 0 n t → take n m ≡ t
@@ -103,3 +91,30 @@ unfolding patch
 page_text {l} {m} {t} {n} p =
     let e : n ≡ length t = omega (arith, p.next) in
     ap (λ (k : List ℕ). take n k) p.text ∙ ap (λ (k : ℕ). take k (t ++ drop (0 + length t) l)) e ∙ take-append_seam t (drop (0 + length t) l)
+
+-- the bytes of a text that have room, from a place on that is within the buffer
+module _ (l s : List ℕ) (a b n : ℕ) (p : b ≡ min a (length l)) (q : n ≡ min (length s) (length l - b)) where
+  with_room : a ≤ length l → take n s ≡ fitting l a s
+  unfolding fitting
+  with_room h =
+      ⊎_elim (λ (g : length s ≤ length l - a). take_all n s (omega arith) ∙ sym (take_all (length l - a) s g))
+      (λ (g : length l - a < length s). let e : n ≡ length l - a = omega arith in ap (λ (k : ℕ). take k s) e)
+      (le_or_lt (length s) (length l - a))
+
+  pub cut_shown : patch l b (take n s) ≡ patch l a (fitting l a s)
+  cut_shown =
+      ⊎_elim (λ (h : a ≤ length l). let e : b ≡ a = omega arith in ap (λ (k : ℕ). patch l k (take n s)) e ∙ ap (patch l a) (with_room h))
+      (λ (h : length l < a).
+      let e : n ≡ 0 = omega arith in
+      ap (λ (k : ℕ). patch l b (take k s)) e ∙ sym (patch_none l b) ∙ none_shown l a s (omega arith))
+      (le_or_lt a (length l))
+
+-- texts added to what is shown
+pub after : {p q r : Show} {x y : List ℕ} → Adds p q x → Adds q r y → Adds p r (x ++ y)
+after a b = record { same = b.same ∙ a.same; shows = then a.shows b.shows }
+
+pub nothing_added : (p : Show) → Adds p p []
+nothing_added p = record { same = refl; shows = no_text p.out.now p.at }
+
+pub added_as : {p q : Show} {t u : List ℕ} → Adds p q t → t ≡ u → Adds p q u
+added_as p e = rw e at p

@@ -1,17 +1,14 @@
 -- What the program prints, as bytes: one definition over the words of the command and what its file was.
-use Rattle.std.specs.Prelude.{ℕ, ◌+◌, ◌-◌, ◌*◌, ◌/◌, ◌%◌, Bool, false, List, [], ◌∷◌, ◌++◌, eqb, leb, ltb, length, take, replicate}
+use Rattle.std.specs.Prelude.{ℕ, ◌+◌, ◌-◌, ◌*◌, ◌/◌, ◌%◌, Bool, false, List, [], ◌∷◌, ◌++◌, Option, Some, None, Result, Ok, Err, eqb, leb, ltb, length, take, replicate}
 use Rattle.value.specs.Pattern.{pick}
-use Rattle.low.specs.declared.Counted.{Counted}
-use Rattle.low.specs.declared.Counted.TheVariants.{Done, Refused}
+use Rattle.low.specs.declared.Refused.{Refused}
 use Rattle.low.specs.Read.{Read, found, refused, must}
 use Rattle.sheet.specs.Sheet.{Sheet, read_sheet}
 use Rattle.fold.specs.Fresh.{fresh_answer, fresh_bytes}
 use Rattle.fold.specs.Change.{change_answer, change_bytes, change_marks}
 use Rattle.words.specs.Split.{word_at, word_count}
 use Rattle.text.specs.Text.{ascii, listing, refusal_line, moved_line}
-use Rattle.asked.specs.declared.asked.Asked.{Asked}
-use Rattle.asked.specs.declared.asked.Asked.TheVariants.{Change, Bad}
-use Rattle.asked.specs.Asked.{verbose, sheet_at, words_after, asked_from, first_bad}
+use Rattle.asked.specs.Asked.{Asked, verbose, sheet_at, words_after, asked_from, first_bad}
 
 -- ---- the lines that list nothing
 -- what the words are to be
@@ -24,25 +21,25 @@ complaint what word = ascii "listing: " ++ what ++ word ++ ascii "\n"
 
 -- ---- the pages
 -- "A refused sheet lists as `refused` and its number", and so does a refused change; else the results are listed
-unfoldable pub page : Counted → List ℕ → List ℕ
-page (Done n) results = listing results
-page (Refused number place) results = refusal_line number
+unfoldable pub page : Result ℕ Refused → List ℕ → List ℕ
+page (Ok n) results = listing results
+page (Err r) results = refusal_line r.number
 
 -- with `-v`, the entries that a change moved stand before its listing
-unfoldable pub moved_page : Bool → Counted → List Bool → ℕ → List ℕ
-moved_page v (Done n) marks own = pick v (moved_line n marks own) []
-moved_page v (Refused number place) marks own = []
+unfoldable pub moved_page : Bool → Result ℕ Refused → List Bool → ℕ → List ℕ
+moved_page v (Ok n) marks own = pick v (moved_line n marks own) []
+moved_page v (Err r) marks own = []
 
 -- one change of the results: what is printed of it, and the results afterwards
 unfoldable pub change_page : Bool → Read Sheet → List ℕ → Asked → List ℕ
-change_page v sheet results (Change entry ty bits) =
-    moved_page v (change_answer sheet results entry ty bits) (change_marks sheet results entry ty bits (replicate 128 false)) entry
-    ++ page (change_answer sheet results entry ty bits) (change_bytes sheet results entry ty bits)
-change_page v sheet results (Bad k) = []
+change_page v sheet results (Ok c) =
+    moved_page v (change_answer sheet results c.entry c.ty c.bits) (change_marks sheet results c.entry c.ty c.bits (replicate 128 false)) c.entry
+    ++ page (change_answer sheet results c.entry c.ty c.bits) (change_bytes sheet results c.entry c.ty c.bits)
+change_page v sheet results (Err k) = []
 
 unfoldable pub after_change : Read Sheet → List ℕ → Asked → List ℕ
-after_change sheet results (Change entry ty bits) = change_bytes sheet results entry ty bits
-after_change sheet results (Bad k) = results
+after_change sheet results (Ok c) = change_bytes sheet results c.entry c.ty c.bits
+after_change sheet results (Err k) = results
 
 -- after each change its listing, over the results as they then stand
 unfoldable pub change_pages : Bool → Read Sheet → List ℕ → List Asked → List ℕ
@@ -68,11 +65,16 @@ pages v sheet changes =
 abbrev pub changes_in : List ℕ → List Asked
 changes_in line = asked_from (words_after line / 3) line (sheet_at line + 1)
 
+-- a line says which word is bad; where none is, the text follows
+unfoldable pub unless_bad : Option ℕ → List ℕ → List ℕ → List ℕ
+unless_bad (Some k) line text = complaint (ascii "bad word ") (word_at k line)
+unless_bad None line text = text
+
 -- the words after SHEET are judged, then whether its file could be read, and then the bytes are listed
 unfoldable pub judged_text : List ℕ → Bool → List ℕ → List ℕ
 judged_text line readable bytes =
     must (eqb (words_after line % 3) 0) (complaint (ascii "too few words after ") (word_at (sheet_at line + words_after line - words_after line % 3) line))
-    (must (eqb (first_bad (changes_in line)) 0) (complaint (ascii "bad word ") (word_at (first_bad (changes_in line)) line))
+    (unless_bad (first_bad (changes_in line)) line
     (must readable (complaint (ascii "cannot read ") (word_at (sheet_at line) line))
     (pages (verbose line) (read_sheet bytes) (changes_in line))))
 

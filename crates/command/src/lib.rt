@@ -6,54 +6,48 @@ mod pages;
 mod show;
 mod whole;
 
-ghost use Rattle.std.specs.Prelude.{◌≤◌, length};
+ghost use Rattle.std.specs.Prelude.{◌≤◌, length, IfSome};
 ghost use Rattle.io.specs.Counts.{IsPrefixLen};
 ghost use Rattle.text.specs.Text.{Put};
 ghost use Rattle.command.specs.Listing.{listing_of, printed};
 
+use show::Show;
 use std::fs;
 use std::rt::Files;
 
-// How many bytes of a file were read, and whether reading went well.
-#[derive(Clone, Copy)]
-struct Read {
-    n: usize,
-    whole: bool,
-}
-
 // The text of a command at the start of a lent buffer, given whether its file could be read and the file's bytes. Says its length. The text is made
 // twice, to measure it and to write it where it fits.
+// The flag stands beside the bytes: the definition speaks of any bytes of a file that cannot be read.
 pub fn listing(out: &mut [u8], line: &[u8], readable: bool, bytes: &[u8]) -> usize
     ensures put { Put out.old out.new 0 result
         (printed (length out.old) (listing_of line.now readable bytes.now)) }
     ensures prefix_len { IsPrefixLen result out.new }
 {
-    let mut none = [0u8; 1];
-    let n = whole::whole(&mut none, line, readable, bytes);
-    if out.len() < n {
-        let k = show::complain(out, b"too much for one command", b"");
-        return if k < out.len() { k } else { out.len() };
+    let room = out.len();
+    let mut measured = Show {
+        out: &mut [],
+        at: 0,
+    };
+    measured.whole(line, readable, bytes);
+    let mut show = Show { out, at: 0 };
+    if room < measured.at {
+        show.complain(b"too much for one command", b"");
+        return show.at.min(room);
     }
-    whole::whole(out, line, readable, bytes)
+    show.whole(line, readable, bytes);
+    show.at
 }
 
-// Reads the file's bytes to the start of a buffer, as many as it holds. A name that is no UTF-8 names no file that std can open.
-fn load<R: Files>(rt: &R, path: &[u8], bytes: &mut [u8]) -> Read
-    ensures { result.n ≤ length bytes.new }
+// Reads the file's bytes to the start of a buffer, as many as it holds, and says how many. A name that is no UTF-8 names no file that std can open.
+fn load<R: Files>(rt: &R, path: &[u8], bytes: &mut [u8]) -> Option<usize>
+    ensures { IfSome result (λ n. n ≤ length bytes.new) }
 {
-    let none = Read { n: 0, whole: false };
-    let Ok(path) = str::from_utf8(path) else {
-        return none;
-    };
-    let Ok(mut file) = fs::open(rt, path) else {
-        return none;
-    };
-    let Ok(n) = reading::fill(&mut file, bytes) else {
-        return none;
-    };
+    let path = str::from_utf8(path).ok()?;
+    let mut file = fs::open(rt, path).ok()?;
+    let n = reading::fill(&mut file, bytes).ok()?;
     let mut one = [0u8; 1];
-    let whole = reading::fill(&mut file, &mut one).is_ok();
-    Read { n, whole }
+    reading::fill(&mut file, &mut one).ok()?;
+    Some(n)
 }
 
 // Writes the text of a command, which is at most as long as this buffer.
@@ -65,15 +59,14 @@ fn print<R: Print>(
     bytes: &[u8],
 ) -> std::io::Result<()> {
     let n = listing(out, line, readable, bytes);
-    let text = &out[..];
-    rt.write_all(&text[0..n])
+    rt.write_all(&out[..n])
 }
 
 // Runs the command: reads its file, of which a byte past the longest sheet is enough, and writes its text.
 pub fn run<R: Files + Print>(rt: &R, line: &[u8]) -> std::io::Result<()> {
     let mut bytes = [0u8; 16385];
     let read = load(rt, asked::sheet_word(line), &mut bytes);
-    let n = read.n;
+    let n = read.unwrap_or(0);
     let mut out = [0u8; 4194304];
-    print(rt, &mut out, line, read.whole, &bytes[0..n])
+    print(rt, &mut out, line, read.is_some(), &bytes[..n])
 }

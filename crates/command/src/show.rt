@@ -1,38 +1,35 @@
-// Texts at a place of a buffer, as much of them as it has room for. Each says the place after the whole text.
-ghost use Rattle.std.specs.Prelude.{◌≡◌, ◌∷◌, [], ◌+◌, ◌^◌, ◌<◌, length};
-ghost use Rattle.low.specs.Bytes.{patch};
-ghost use Rattle.command.specs.Inside.{Shows, fitting};
+// Texts one after another in a lent buffer, as much of them as it has room for.
+ghost use Rattle.std.specs.Prelude.{◌+◌, ◌^◌, ◌<◌, length};
+ghost use Rattle.command.specs.Inside.{Adds};
 ghost use Rattle.command.specs.Listing.{complaint};
 
-// One byte, where there is room.
-fn byte(out: &mut [u8], at: usize, c: u8)
-    ensures { out.new ≡ patch out.old at (fitting out.old at (c ∷ [])) }
-{
-    if at < out.len() {
-        out[at] = c;
-    }
+// A lent buffer, and the place after the whole of the texts.
+#[derive(Drop)]
+pub(crate) struct Show<'a> {
+    pub(crate) out: &'a mut [u8],
+    pub(crate) at: usize,
 }
 
-// The bytes of s.
-pub(crate) fn text(out: &mut [u8], at: usize, s: &[u8]) -> usize
-    requires { at + length s.now < 2 ^ 64 }
-    ensures { Shows out.old out.new at result s.now }
-{
-    let mut i = 0;
-    while i < s.len() {
-        byte(out, at + i, s[i]);
-        i += 1;
+impl Show<'_> {
+    // The bytes of s.
+    pub(crate) fn text(&mut self, s: &[u8])
+        requires { self.old.at + length s.now < 2 ^ 64 }
+        ensures { Adds self.old self.new s.now }
+    {
+        let start = self.at.min(self.out.len());
+        let n = s.len().min(self.out.len() - start);
+        self.out[start..start + n].copy_from_slice(&s[..n]);
+        self.at += s.len();
     }
-    at + i
-}
 
-// One line that says what is wrong, and of which word.
-pub(crate) fn complain(out: &mut [u8], what: &[u8], word: &[u8]) -> usize
-    requires { length what.now + length word.now + 10 < 2 ^ 64 }
-    ensures { Shows out.old out.new 0 result (complaint what.now word.now) }
-{
-    let a = text(out, 0, b"listing: ");
-    let b = text(out, a, what);
-    let c = text(out, b, word);
-    text(out, c, b"\n")
+    // One line that says what is wrong, and of which word.
+    pub(crate) fn complain(&mut self, what: &[u8], word: &[u8])
+        requires { self.old.at + length what.now + length word.now + 10 < 2 ^ 64 }
+        ensures { Adds self.old self.new (complaint what.now word.now) }
+    {
+        self.text(b"listing: ");
+        self.text(what);
+        self.text(word);
+        self.text(b"\n");
+    }
 }

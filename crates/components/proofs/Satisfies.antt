@@ -8,24 +8,21 @@ use native.Mathlib.Nat.{eq-or-lt_of_le, le_of_suc-le-suc, not-suc-le-zero}
 use lib.ListN.{get_or, replicate, length-set}
 use lib.Seq.{get_or-set_same, get_or-set_other}
 use Rattle.types.specs.Types.{result_type}
+use Rattle.std.specs.Prelude.{Option, Some, None, Ok, Err}
 use Rattle.value.specs.declared.Refusal.{Refusal}
-use Rattle.scalar.specs.declared.Step.{Step}
-use Rattle.scalar.specs.declared.Step.TheVariants as S
-use Rattle.scalar.specs.declared.Conv.{Conv}
-use Rattle.scalar.specs.declared.Conv.TheVariants as C
-use Rattle.scalar.specs.Step.{step_of, unary_step_of, conv_of}
+use Rattle.scalar.specs.Step.{Step, step_of, unary_step_of, conv_of}
 use Rattle.scalar.proofs.Keeps.{Refuses, no_binary}
 use Rattle.scalar.proofs.Promises.{Stepped, Converted, step_answers, unary_answers, conversion_answers}
 use Rattle.operand.specs.Operand.{component_at}
 use Rattle.low.specs.Bytes.{up_to}
 use Rattle.operand.proofs.Answers.{Fine, Sixteen}
-use Rattle.components.specs.Components.{Out, got, stop, and_then, all_or_refusal, each_component, step_result, conv_result, binary_at, unary_at, converted_at}
+use Rattle.components.specs.Components.{Out, and_then, all_or_refusal, each_component, step_result, conv_result, binary_at, unary_at, converted_at}
 use Rattle.components.proofs.Traverse.{put_at, each_step}
 
 -- a fact of what was worked out, or a fact of the refusal
 abbrev pub Satisfies : {A : Type 0} → (A → Type 0) → (Refusal → Type 0) → Out A → Type 0
-Satisfies P R (got a) = P a
-Satisfies P R (stop r) = R r
+Satisfies P R (Ok a) = P a
+Satisfies P R (Err r) = R r
 
 zeros : (n i : ℕ) → ◌≡◌ {A = ℕ} (get_or (replicate n 0) i 0) 0
 zeros zero i = refl
@@ -34,7 +31,7 @@ zeros (suc n) (suc i) = zeros n i
 
 module _ (Q : ℕ → Type 0) (R : Refusal → Type 0) where
   put_held : (n : ℕ) (o : Out (List ℕ)) (s : Out ℕ) → n < 16 → Satisfies (Sixteen Q n) R o → Satisfies Q R s → Satisfies (Sixteen Q (suc n)) R (and_then o (λ cs. put_at cs n s))
-  put_held n (got cs) (got b) h k q =
+  put_held n (Ok cs) (Ok b) h k q =
       record {
         long = length-set cs n b ∙ k.long;
         used = λ i z. ⊎_elim
@@ -43,8 +40,8 @@ module _ (Q : ℕ → Type 0) (R : Refusal → Type 0) where
             (eq-or-lt_of_le (le_of_suc-le-suc z));
         rest = λ i z. get_or-set_other cs n i b 0 (omega arith) ∙ k.rest i (omega arith);
       }
-  put_held n (got cs) (stop r) h k q = q
-  put_held n (stop r) s h k q = k
+  put_held n (Ok cs) (Err r) h k q = q
+  put_held n (Err r) s h k q = k
 
   -- by component
   pub each_held : (f : ℕ → Out ℕ) (n : ℕ) → n ≤ 16 → ((i : ℕ) → i < n → Satisfies Q R (f i)) → Satisfies (Sixteen Q n) R (each_component f n)
@@ -55,15 +52,15 @@ module _ (Q : ℕ → Type 0) (R : Refusal → Type 0) where
 
 -- ---- one component: what the scalar layer promises
 stepped : (ty : ℕ) (s : Step) → Stepped ty s → Satisfies (Fine ty) Refuses (step_result s)
-stepped ty (S.Bits t b) h = h.1
-stepped ty (S.Refused r) h = h
+stepped ty (Ok (t, b)) h = h.1
+stepped ty (Err r) h = h
 
 pub step_held : (op stage ty l r : ℕ) → Satisfies (Fine (result_type op ty)) Refuses (step_result (step_of op stage ty l r))
 step_held op stage ty l r = stepped (result_type op ty) (step_of op stage ty l r) (step_answers op stage ty l r)
 
-converted : (ty : ℕ) (c : Conv) → Converted ty c → Satisfies (Fine ty) Refuses (conv_result c)
-converted ty (C.Bits b) h = h
-converted ty C.Nothing h = no_binary
+converted : (ty : ℕ) (c : Option ℕ) → Converted ty c → Satisfies (Fine ty) Refuses (conv_result c)
+converted ty (Some b) h = h
+converted ty None h = no_binary
 
 -- ---- all components
 module _ (n : ℕ) (few : n ≤ 16) where

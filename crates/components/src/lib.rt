@@ -1,49 +1,12 @@
-// Work component by component, from 0 up, until one refuses.
+// Work component by component, from 0 up, until one refuses. The loops are written out: where one function takes the step as a
+// closure, a unary operator on a vector took twice the time.
 #![tactic(auto)]
 
 ghost use Rattle.std.specs.Prelude.{◌≡◌, ◌+◌, ◌*◌, ◌≤◌, ◌<◌};
-ghost use Rattle.components.specs.Components.{got, run_result, each_component, ended_by, lane, binary_at, unary_at, converted_at, Inside};
+ghost use Rattle.components.specs.Components.{each_component, lane, binary_at, unary_at, converted_at, Inside};
 
-use scalar::{Conv, Step};
-use value::Refusal;
-
-// The components of an operation, or the refusal that stopped it.
-#[derive(Clone, Copy)]
-pub struct Run {
-    pub comps: [u64; 16],
-    pub refusal: Refusal,
-    pub stopped: bool,
-}
-
-// A run that went to its end.
-pub fn finished(comps: [u64; 16]) -> Run
-    ensures { run_result result ≡ got comps }
-{
-    Run {
-        stopped: false,
-        refusal: Refusal {
-            number: 0,
-            detail: 0,
-            ty: 0,
-            bits: 0,
-        },
-        comps,
-    }
-}
-
-// A run that a refused step ends.
-pub fn ended(s: Step) -> Run
-    ensures { run_result result ≡ ended_by s }
-{
-    let Step::Refused(refusal) = s else {
-        return finished([0u64; 16]);
-    };
-    Run {
-        stopped: true,
-        refusal,
-        comps: [0u64; 16],
-    }
-}
+use scalar::refusal;
+use value::{Refusal, refusals};
 
 // The number at place a + i * s.
 pub fn entry(xs: &[u64; 16], a: usize, i: usize, s: usize) -> u64
@@ -65,60 +28,49 @@ pub fn steps(
     b: usize,
     t: usize,
     n: usize,
-) -> Run
+) -> Result<[u64; 16], Refusal>
     requires { Inside a s n × Inside b t n × (n ≤ 16) }
-    ensures { run_result result ≡ each_component (binary_at op stage ty (lane l.now a s) (lane r.now b t)) n }
+    ensures { result ≡ each_component (binary_at op stage ty (lane l.now a s) (lane r.now b t)) n }
 {
     let mut out = [0u64; 16];
-    let mut i = 0;
-    while i < n {
+    for i in 0..n {
+        // 01 names this form here: a let that returns early on refusal.
         let step = scalar::binary_step(op, stage, ty, entry(l, a, i, s), entry(r, b, i, t));
-        let Step::Bits(_, bits) = step else {
-            return ended(step);
+        let Ok((_, bits)) = step else {
+            return step.map(|_| out);
         };
         out[i] = bits;
-        i += 1;
     }
-    finished(out)
+    Ok(out)
 }
 
 // A unary operator by component.
-pub fn unary_steps(op: u8, ty: u8, xs: &[u64; 16], n: usize) -> Run
+pub fn unary_steps(op: u8, ty: u8, xs: &[u64; 16], n: usize) -> Result<[u64; 16], Refusal>
     requires { n ≤ 16 }
-    ensures { run_result result ≡ each_component (unary_at op ty xs.now) n }
+    ensures { result ≡ each_component (unary_at op ty xs.now) n }
 {
     let mut out = [0u64; 16];
-    let mut i = 0;
-    while i < n {
+    for i in 0..n {
         let step = scalar::unary_step(op, ty, xs[i]);
-        let Step::Bits(_, bits) = step else {
-            return ended(step);
+        let Ok((_, bits)) = step else {
+            return step.map(|_| out);
         };
         out[i] = bits;
-        i += 1;
     }
-    finished(out)
+    Ok(out)
 }
 
 // All components to another type.
-pub fn converted(from: u8, to: u8, xs: &[u64; 16], n: usize) -> Run
+pub fn converted(from: u8, to: u8, xs: &[u64; 16], n: usize) -> Result<[u64; 16], Refusal>
     requires { n ≤ 16 }
-    ensures { run_result result ≡ each_component (converted_at from to xs.now) n }
+    ensures { result ≡ each_component (converted_at from to xs.now) n }
 {
     let mut out = [0u64; 16];
-    let mut i = 0;
-    while i < n {
-        let conv = scalar::convert_step(from, to, xs[i]);
-        let Conv::Bits(bits) = conv else {
-            return ended(Step::Refused(Refusal {
-                number: 2,
-                detail: 0,
-                ty: 0,
-                bits: 0,
-            }));
+    for i in 0..n {
+        let Some(bits) = scalar::convert_step(from, to, xs[i]) else {
+            return Err(refusal(refusals::BINARY));
         };
         out[i] = bits;
-        i += 1;
     }
-    finished(out)
+    Ok(out)
 }

@@ -1,6 +1,4 @@
 -- The laws of this crate. Assumes nothing.
-pub mod Range
 pub mod Rounded
-pub mod Pairing
 pub mod Single
 pub mod Impostors

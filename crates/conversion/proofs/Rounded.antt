@@ -1,7 +1,8 @@
 -- Each conversion to a float type rounds once: the claims of `specs/Rounded.antt`. Assumes nothing.
 use mathlib.Core.Path.{◌≡◌, refl, sym, ap, ◌∙◌}
-use mathlib.Core.Bool.{Bool, true, false, false≢true}
+use mathlib.Core.Bool.{Bool, false, false≢true}
 use lib.Ieee.{Float, nan, inf, fin}
+use Rattle.std.specs.Prelude.{Some, None}
 use Rattle.rounding.specs.Kind.{Kind, half, single, double, convert, of_integer}
 use Rattle.rounding.specs.Bits.{to_bits, finite}
 use Rattle.rounding.specs.Rounded.{Exact, RoundedOnce, RoundedOr, ratio, exact_of, sign_of, own_sign}
@@ -11,16 +12,15 @@ use Rattle.rounding.proofs.Units.{half_sized, single_sized, double_sized}
 use Rattle.types.proofs.Choice.{picked, passed}
 use Rattle.value.specs.declared.Scalar.{Scalar}
 use Rattle.value.specs.declared.Scalar.TheVariants.{AbstractFloat, F32, F16}
-use Rattle.value.specs.declared.Found.TheVariants.{Value, Nothing}
 use Rattle.value.specs.Scalar.{finite_of}
 use Rattle.conversion.specs.Convert.{when_finite}
 use Rattle.conversion.specs.Rounded.{to_abstract_float, to_f32, to_f16, IntegerConverts, FloatConverts, NotFiniteRefused}
 
 -- what is rounded once is converted where it is finite
 converted : (k : Kind) (s : Bool) (x : Exact) (r : Float) (make : Float → Scalar) → RoundedOnce k s x r → finite_of (make r) ≡ finite r
-    → RoundedOr k s x (λ v. Value (make v)) Nothing (when_finite (make r))
+    → RoundedOr k s x (λ v. Some (make v)) None (when_finite (make r))
 converted k s x r make h q =
-    answered k s x r (λ v. Value (make v)) h (λ f. sym (picked (Value (make r)) Nothing (q ∙ f))) (λ e. sym (passed (Value (make r)) Nothing (q ∙ ap finite e)))
+    answered k s x r (λ v. Some (make v)) h (λ f. sym (picked (Some (make r)) None (q ∙ f))) (λ e. sym (passed (Some (make r)) None (q ∙ ap finite e)))
 
 -- ---- from AbstractInt
 pub integer_to_float : IntegerConverts to_abstract_float
@@ -48,4 +48,4 @@ not_finite_f32 (inf s) f = refl
 not_finite_f32 (fin s m e) f = absurd (false≢true (sym f))
 
 pub not_finite_f16 : NotFiniteRefused to_f16
-not_finite_f16 x f = sym (passed (Value (F16 (to_bits half (convert half x)))) Nothing (half_not_finite x f))
+not_finite_f16 x f = sym (passed (Some (F16 (to_bits half (convert half x)))) None (half_not_finite x f))

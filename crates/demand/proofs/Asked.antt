@@ -9,13 +9,13 @@ use lib.ListN.{length}
 use borrow.Author.Tests.{eq-eqb, eqb-true}
 use Rattle.value.specs.Pattern.{pick}
 use Rattle.operand.specs.declared.Instance.{Instance}
-use Rattle.low.specs.Read.{Read, found, refused, must}
+use Rattle.low.specs.Read.{Read, found, refused, must, refusal}
 use Rattle.sheet.specs.Tree.{Entry, setting, expression}
 use Rattle.sheet.specs.Sheet.{Sheet, read_sheet}
 use Rattle.entries.specs.Entries.{entry_at, refs_of, is_setting, setting_type}
 use Rattle.entries.specs.Depend.{depends, tally}
-use Rattle.low.specs.declared.Counted.{Counted}
-use Rattle.low.specs.declared.Counted.TheVariants.{Done, Refused}
+use Rattle.std.specs.Prelude.{Result, Ok}
+use Rattle.low.specs.declared.Refused.{Refused}
 use Rattle.fold.specs.Fresh.{means_of}
 use Rattle.fold.specs.Change.{content_bytes, fault_of, changed, change_answer, change_bytes}
 use Rattle.fold.proofs.Answers.{setting_among, no_fault, proper_in_lem}
@@ -59,22 +59,22 @@ passed s l es n i ty bits good e =
 
 -- ---- what a call answers
 module _ (s l : List ℕ) (i ty bits : ℕ) where
-  done_asked : (x : Read Sheet) → read_sheet s ≡ x → (count : ℕ) → change_answer x l i ty bits ≡ Done count → (es : Sheet) × Asked s l es i ty bits
+  done_asked : (x : Read Sheet) → read_sheet s ≡ x → (count : ℕ) → change_answer x l i ty bits ≡ Ok count → (es : Sheet) × Asked s l es i ty bits
   unfolding change_answer
   done_asked (found es n) good count e = go (eqb (fault_of es (length l) i ty bits) 0) refl e
     where
       go : (b : Bool) → eqb (fault_of es (length l) i ty bits) 0 ≡ b
-          → pick b (Done (tally (depends (refs_of es) i) (length es.entries))) (Refused (fault_of es (length l) i ty bits) 0) ≡ Done count
+          → pick b (Ok (tally (depends (refs_of es) i) (length es.entries))) (refusal (fault_of es (length l) i ty bits) 0) ≡ Ok count
           → (es : Sheet) × Asked s l es i ty bits
       go true q h = (es, passed s l es n i ty bits good (eqb-true (fault_of es (length l) i ty bits) 0 q))
       go false q h = absurd (let z : ◌≡◌ {A = ℕ} 0 1 = cc in omega arith)
   done_asked (refused k p) good count e = absurd (let z : ◌≡◌ {A = ℕ} 0 1 = cc in omega arith)
 
-  refused_keeps : (x : Read Sheet) (k p : ℕ) → change_answer x l i ty bits ≡ Refused k p → change_bytes x l i ty bits ≡ l
+  refused_keeps : (x : Read Sheet) (k p : ℕ) → change_answer x l i ty bits ≡ refusal k p → change_bytes x l i ty bits ≡ l
   unfolding change_answer change_bytes
   refused_keeps (found es n) k p e = go (eqb (fault_of es (length l) i ty bits) 0) (changed (means_of es) (refs_of es) i (content_bytes ty bits) (length es.entries) l) e
     where
-      go : (b : Bool) (r : List ℕ) → pick b (Done (tally (depends (refs_of es) i) (length es.entries))) (Refused (fault_of es (length l) i ty bits) 0) ≡ Refused k p
+      go : (b : Bool) (r : List ℕ) → pick b (Ok (tally (depends (refs_of es) i) (length es.entries))) (refusal (fault_of es (length l) i ty bits) 0) ≡ refusal k p
           → pick b r l ≡ l
       go true r h = absurd (let z : ◌≡◌ {A = ℕ} 0 1 = cc in omega arith)
       go false r h = refl
@@ -89,6 +89,6 @@ module _ (s l : List ℕ) (i ty bits : ℕ) where
       }
 
   -- so does whatever equals what is answered and left
-  pub outcome_meets : (answer : Counted) (r : List ℕ) → answer ≡ answered s l i ty bits → r ≡ after s l i ty bits → ChangeMeets s l i ty bits answer r
+  pub outcome_meets : (answer : Result ℕ Refused) (r : List ℕ) → answer ≡ answered s l i ty bits → r ≡ after s l i ty bits → ChangeMeets s l i ty bits answer r
   outcome_meets answer r e f =
-      subst (λ (x : Counted). ChangeMeets s l i ty bits x r) (sym e) (subst (ChangeMeets s l i ty bits (answered s l i ty bits)) (sym f) change_meets)
+      subst (λ (x : Result ℕ Refused). ChangeMeets s l i ty bits x r) (sym e) (subst (ChangeMeets s l i ty bits (answered s l i ty bits)) (sym f) change_meets)

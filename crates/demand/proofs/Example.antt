@@ -7,7 +7,6 @@ use Rattle.operand.specs.Operand.{a_scalar}
 use Rattle.low.specs.Bytes.{lows, patch}
 use Rattle.low.specs.Read.{Read}
 use Rattle.types.specs.Edition.{plain}
-use Rattle.sheet.specs.Tree.{setting}
 use Rattle.sheet.specs.Sheet.{Sheet, sheet_of}
 use Rattle.entries.specs.Entries.{entry_at}
 use Rattle.sheet.proofs.Example.{bytes, example}

@@ -3,23 +3,22 @@
 -- slots of other entries that do not depend on the setting hold their old bytes; its own slot holds the new content (a NaN as 01 keeps it); every
 -- dependent's slot holds what its expression means over the slots as they now stand; the count returned is the number of dependents. So fresh results
 -- become the fresh results for the changed setting."
-use Rattle.std.specs.Prelude.{ℕ, ◌*◌, ◌≡◌, true, List, [], ◌∷◌, length, take}
+use Rattle.std.specs.Prelude.{ℕ, ◌*◌, ◌≡◌, true, List, [], ◌∷◌, length, take, Result, Ok}
 use Rattle.value.specs.Pattern.{proper_of}
 use Rattle.operand.specs.declared.Instance.{Instance}
 use Rattle.low.specs.Bytes.{lows, patch}
-use Rattle.low.specs.Read.{Read, found, refused}
+use Rattle.low.specs.Read.{Read, found, refused, refusal}
 use Rattle.sheet.specs.Tree.{setting}
 use Rattle.sheet.specs.Sheet.{Sheet, read_sheet}
 use Rattle.entries.specs.Entries.{entry_at, refs_of, with_setting}
 use Rattle.writer.specs.Write.{content_place, Bytes}
-use Rattle.low.specs.declared.Counted.{Counted}
-use Rattle.low.specs.declared.Counted.TheVariants.{Done, Refused}
+use Rattle.low.specs.declared.Refused.{Refused}
 use Rattle.fold.specs.Fresh.{means_of, fresh_bytes}
 use Rattle.fold.specs.Change.{content, content_bytes, change_answer, change_bytes}
 use Rattle.fold.specs.Demand.{Changed, Version}
 
 -- ---- the change, as the contract of `change` says it: what it answers, and the results afterwards
-abbrev pub answered : List ℕ → List ℕ → ℕ → ℕ → ℕ → Counted
+abbrev pub answered : List ℕ → List ℕ → ℕ → ℕ → ℕ → Result ℕ Refused
 answered s l i ty bits = change_answer (read_sheet s) l i ty bits
 
 abbrev pub after : List ℕ → List ℕ → ℕ → ℕ → ℕ → List ℕ
@@ -41,11 +40,11 @@ pub record Asked (s l : List ℕ) (es : Sheet) (i ty bits : ℕ) : Type 0 where
 
 -- of an answer and the results r afterwards: such a change, and no other, is done. It answers a count, and of count and results holds what Changed says
 -- (kept, own, works, counted) over what the sheet's entries mean and name; a refused change writes no byte
-pub record ChangeMeets (s l : List ℕ) (i ty bits : ℕ) (answer : Counted) (r : List ℕ) : Type 0 where
+pub record ChangeMeets (s l : List ℕ) (i ty bits : ℕ) (answer : Result ℕ Refused) (r : List ℕ) : Type 0 where
   pub works : (es : Sheet) → Asked s l es i ty bits
-      → (count : ℕ) × (answer ≡ Done count) × Changed (means_of es) (refs_of es) i (content_bytes ty bits) (length es.entries) l r count
-  pub only : (count : ℕ) → answer ≡ Done count → (es : Sheet) × Asked s l es i ty bits
-  pub refuses : (k p : ℕ) → answer ≡ Refused k p → r ≡ l
+      → (count : ℕ) × (answer ≡ Ok count) × Changed (means_of es) (refs_of es) i (content_bytes ty bits) (length es.entries) l r count
+  pub only : (count : ℕ) → answer ≡ Ok count → (es : Sheet) × Asked s l es i ty bits
+  pub refuses : (k p : ℕ) → answer ≡ refusal k p → r ≡ l
 
 -- ---- the changed setting
 -- a sheet with 8 bytes of new content in the place of those of entry i

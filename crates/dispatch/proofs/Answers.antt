@@ -6,6 +6,7 @@ use mathlib.Core.Logic.{inl, inr}
 use Prim.Native.Nat.{ℕ, ◌≤◌}
 use native.Mathlib.Omega.{arith}
 use borrow.Author.Tests.{ne_eqb}
+use Rattle.std.specs.Prelude.{Ok, Err}
 use Rattle.value.specs.declared.Refusal.{Refusal}
 use Rattle.value.specs.Answer.{carries}
 use Rattle.value.specs.Pattern.{pick}
@@ -16,7 +17,7 @@ use Rattle.operand.specs.declared.Outcome.{Outcome}
 use Rattle.operand.specs.declared.Shape.{Shape}
 use Rattle.operand.proofs.Shapes.{Shaped, unshaped}
 use Rattle.operand.proofs.Answers.{Fine, Sixteen, Answers}
-use Rattle.components.specs.Components.{Out, got, stop}
+use Rattle.components.specs.Components.{Out}
 use Rattle.components.proofs.Satisfies.{Satisfies}
 use Rattle.dispatch.specs.Meaning.{refuse_unless, on_result, shaped_answer}
 
@@ -57,10 +58,10 @@ needed true n o h k f = f
 needed false n o h k f = numbered n h k
 
 pub going : {A : Type 0} (P : A → Type 0) (q : Out A) (k : A → Outcome) → Satisfies P Refuses q → ((a : A) → Answers (k a)) → Answers (on_result q k)
-going P (got a) k h f = f a
-going P (stop r) k h f = refusing r h
+going P (Ok a) k h f = f a
+going P (Err r) k h f = refusing r h
 
 pub answering : (q : Out (List ℕ)) (ty : ℕ) (s : Shape) → Shaped ty s → Satisfies (Sixteen (Fine ty) (component_count s)) Refuses q
     → Answers (shaped_answer q ty s.cols s.rows)
-answering (got cs) ty s h k = inl (record { status = refl; detail = refl; shape = unshaped ty s h; parts = k })
-answering (stop r) ty s h k = refusing r k
+answering (Ok cs) ty s h k = inl (record { status = refl; detail = refl; shape = unshaped ty s h; parts = k })
+answering (Err r) ty s h k = refusing r k

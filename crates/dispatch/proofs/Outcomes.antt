@@ -17,8 +17,7 @@ use Rattle.operand.proofs.Answers.{Fine, Sixteen, Answers}
 use Rattle.components.specs.Components.{each_component, converted_at, unary_at}
 use Rattle.components.proofs.Satisfies.{unary_held, conv_held}
 use Rattle.pairing.specs.Pairing.{op_known, unary_known, stage_known, pair_ok, targets_of}
-use Rattle.pairing.specs.declared.Targets.{Targets}
-use Rattle.pairing.specs.declared.Targets.TheVariants as T
+use Rattle.std.specs.Prelude.{Option, Some, None}
 use Rattle.pairing.proofs.Meets.{Meets, meets}
 use Rattle.dispatch.specs.Meaning.{refuse_unless, on_result, on_targets, converted_to, judged, binary_meaning, unary_judged, unary_meaning}
 use Rattle.dispatch.proofs.Answers.{numbered, needed, going, answering}
@@ -40,9 +39,9 @@ module _ (op stage : ℕ) (l r : Instance) (gl : operand_formed l ≡ true) (gr 
       conversion_answers l gl x _ (λ xs. conversion_answers r gr y _ (λ ys.
       converted_answers op stage l.ty r.ty x y (shape_of l) (shape_of r) (formed_shaped l gl) (formed_shaped r gr) pair m xs ys))
 
-  targets_answer : pair_ok op (shape_of l) (shape_of r) ≡ true → (t : Targets) → targets_of op l.ty r.ty ≡ t → Answers (on_targets t op stage l r)
-  targets_answer pair (T.Types x y) e = both_answer x y pair (meets op l.ty r.ty x y e)
-  targets_answer pair T.Nothing e = numbered 2 (omega arith) (omega arith)
+  targets_answer : pair_ok op (shape_of l) (shape_of r) ≡ true → (t : Option (ℕ × ℕ)) → targets_of op l.ty r.ty ≡ t → Answers (on_targets t op stage l r)
+  targets_answer pair (Some (x, y)) e = both_answer x y pair (meets op l.ty r.ty x y e)
+  targets_answer pair None e = numbered 2 (omega arith) (omega arith)
 
   paired : (t : Bool) → pair_ok op (shape_of l) (shape_of r) ≡ t → Answers (refuse_unless t No.Binary (on_targets (targets_of op l.ty r.ty) op stage l r))
   paired true pair = targets_answer pair (targets_of op l.ty r.ty) refl

@@ -16,14 +16,14 @@ use Rattle.types.specs.Types.{right_of, result_type}
 use Rattle.value.specs.Refusals as No
 use Rattle.scalar.proofs.Reread.{again, rereads, right_type, step_alike}
 use Rattle.operand.specs.Operand.{shape_of, is_scalar, component_count, Small, component_at, operand_formed}
-use Rattle.components.specs.Components.{Out, got, each_component, step_result, conv_result, stride_of, converted_at}
+use Rattle.components.specs.Components.{Out, each_component, step_result, conv_result, stride_of, converted_at}
 use Rattle.products.specs.Products.{plus_one, plus_all, times_row, cell_at, vector_matrix}
 use Rattle.pairing.specs.Pairing.{targets_of, is_product, inner_ok, same_shape, fits_of, result_shape}
 use Rattle.dispatch.specs.Meaning.{refuse_unless, shaped_answer, by_component, matrix_product, on_converted, converted_to}
 use Rattle.operand.specs.declared.Instance.{Instance}
 use Rattle.operand.specs.declared.Outcome.{Outcome}
 use Rattle.operand.specs.declared.Shape.{Shape}
-use Rattle.pairing.specs.declared.Targets.TheVariants as T
+use Rattle.std.specs.Prelude.{Some, Ok}
 use Rattle.low.proofs.Tests.{both, one_of}
 use Rattle.operand.proofs.Shapes.{formed_shaped, formed_small, formed_at}
 use Rattle.components.proofs.Traverse.{each_same, all_of, each_got, all_at}
@@ -140,7 +140,7 @@ module _ (v : Instance) (good : operand_formed v ≡ true) where
   known = omega (arith, ltb-true v.ty 7 (formed_shaped v good).known)
 
   -- the conversion refuses none, and each is read as the scalar that it was
-  itself : each_component (converted_at v.ty v.ty v.comps) (component_count (shape_of v)) ≡ got (restated v)
+  itself : each_component (converted_at v.ty v.ty v.comps) (component_count (shape_of v)) ≡ Ok (restated v)
   itself =
       each_got _ (converted_at v.ty v.ty v.comps) (component_count (shape_of v))
       (λ i z. ap conv_result (rereads v.ty (component_at v.comps i) known (formed_at v good i z)).0)
@@ -170,7 +170,7 @@ module _ (op stage : ℕ) (l r : Instance) (gl : operand_formed l ≡ true) (gr 
       (converted_same stage l.ty (shape_of l) (shape_of r) (formed_small l gl) (formed_small r gr) (restated l) l.comps (restated r) r.comps op (alike m))
 
   -- an outcome worked on the operands as they stand is that on the converted ones
-  pub stands : (x y : ℕ) (o : Outcome) → targets_of op l.ty r.ty ≡ T.Types x y → (eqb l.ty x && eqb r.ty y) ≡ true
+  pub stands : (x y : ℕ) (o : Outcome) → targets_of op l.ty r.ty ≡ Some (x, y) → (eqb l.ty x && eqb r.ty y) ≡ true
       → o ≡ on_converted op stage x (shape_of l) l.comps (shape_of r) r.comps → o ≡ converted_to x y op stage l r
   stands x y o t h e =
       let k = both (eqb l.ty x) (eqb r.ty y) h in

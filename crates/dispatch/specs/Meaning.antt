@@ -1,18 +1,16 @@
 -- What an operator gives on operands of any shape, in the order of the checks. Assumes nothing.
-use Rattle.std.specs.Prelude.{ℕ, ◌-◌, ◌*◌, Bool, true, false, not, List, eqb}
+use Rattle.std.specs.Prelude.{ℕ, Option, Some, None, ◌-◌, ◌*◌, Bool, true, false, not, List, eqb, Ok, Err}
 use Rattle.value.specs.Pattern.{pick}
 use Rattle.types.specs.Types.{right_of, unary_right_of, result_type}
 use Rattle.value.specs.Refusals as No
 use Rattle.operand.specs.Operand.{shape_of, is_matrix, component_count, operand_formed}
 use Rattle.operand.specs.Outcome.{refused_with, refused_as, value_of}
-use Rattle.components.specs.Components.{Out, got, stop, each_component, lane, stride_of, binary_at, unary_at, converted_at}
+use Rattle.components.specs.Components.{Out, each_component, lane, stride_of, binary_at, unary_at, converted_at}
 use Rattle.products.specs.Products.{cell_at, vector_matrix}
 use Rattle.pairing.specs.Pairing.{op_known, unary_known, stage_known, pair_ok, targets_of, is_product, fits_of, misfit_of, result_shape}
 use Rattle.operand.specs.declared.Instance.{Instance}
 use Rattle.operand.specs.declared.Outcome.{Outcome}
 use Rattle.operand.specs.declared.Shape.{Shape}
-use Rattle.pairing.specs.declared.Targets.{Targets}
-use Rattle.pairing.specs.declared.Targets.TheVariants as T
 
 -- a check that must hold, the number that answers where it does not, and what comes after it
 abbrev pub refuse_unless : Bool → ℕ → Outcome → Outcome
@@ -21,13 +19,13 @@ refuse_unless false n o = refused_with n 0
 
 -- a refusal is the answer; a result goes on
 abbrev pub on_result : {A : Type 0} → Out A → (A → Outcome) → Outcome
-on_result (got a) k = k a
-on_result (stop r) k = refused_as r
+on_result (Ok a) k = k a
+on_result (Err r) k = refused_as r
 
 -- components as a value of a type and shape
 abbrev pub shaped_answer : Out (List ℕ) → ℕ → ℕ → ℕ → Outcome
-shaped_answer (got cs) ty c r = value_of (record { ty = ty; cols = c; rows = r; comps = cs })
-shaped_answer (stop r) ty c w = refused_as r
+shaped_answer (Ok cs) ty c r = value_of (record { ty = ty; cols = c; rows = r; comps = cs })
+shaped_answer (Err r) ty c w = refused_as r
 
 -- by component, of the shape s; a scalar stands for every component of the other operand
 abbrev pub by_component_as : Shape → ℕ → ℕ → ℕ → Shape → List ℕ → Shape → List ℕ → Outcome
@@ -61,9 +59,9 @@ converted_to x y op stage l r =
     on_converted op stage x (shape_of l) xs (shape_of r) ys))
 
 -- no common type is Binary
-abbrev pub on_targets : Targets → ℕ → ℕ → Instance → Instance → Outcome
-on_targets (T.Types x y) op stage l r = converted_to x y op stage l r
-on_targets T.Nothing op stage l r = refused_with No.Binary 0
+abbrev pub on_targets : Option (ℕ × ℕ) → ℕ → ℕ → Instance → Instance → Outcome
+on_targets (Some (x, y)) op stage l r = converted_to x y op stage l r
+on_targets None op stage l r = refused_with No.Binary 0
 
 -- shape pair; common type; conversions and what comes after
 unfoldable pub judged : ℕ → ℕ → Instance → Instance → Outcome

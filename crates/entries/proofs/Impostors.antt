@@ -10,7 +10,7 @@ use Rattle.sheet.specs.Stage.{kind_of}
 use Rattle.sheet.specs.Record.{read_head}
 use Rattle.sheet.specs.Sheet.{read_sheet}
 use Rattle.sheet.proofs.Example.{bytes, example}
-use Rattle.entries.specs.declared.Setting.TheVariants.{Of, None}
+use Rattle.std.specs.Prelude.{Some, None}
 use Rattle.entries.specs.Depend.{any, chain, depends, touched, tally}
 use Rattle.entries.specs.Records.{begins_in, span_in, span_of, place_after, setting_in, setting_of}
 
@@ -30,7 +30,7 @@ unfolding must whole part read_head span_in place_after
 third_place = refl
 
 -- a setting's type is not its tag, and an expression is no setting
-pub settings : map (setting_of bytes) (0 ∷ 17 ∷ []) ≡ Of 4 ∷ None ∷ []
+pub settings : map (setting_of bytes) (0 ∷ 17 ∷ []) ≡ Some 4 ∷ None ∷ []
 unfolding must whole part read_head span_in kind_of setting_in
 settings = refl
 

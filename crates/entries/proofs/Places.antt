@@ -32,7 +32,7 @@ use Rattle.sheet.proofs.Accepted.{BodyHolds, a_setting, an_expression, holds}
 use Rattle.sheet.proofs.Sheets.{one_more, sheet_good, begins_first}
 use Rattle.sheet.proofs.Sound.{SoundEntry, entry_sound, names_below}
 use Rattle.entries.specs.declared.Span.{Span}
-use Rattle.entries.specs.declared.Setting.TheVariants.{Of, None}
+use Rattle.std.specs.Prelude.{Some, None}
 use Rattle.entries.specs.Entries.{entry_at, refs_of, is_setting, setting_type}
 use Rattle.entries.specs.Records.{begins_in, span_in, span_of, place_after, setting_in, setting_of}
 use Rattle.entries.specs.Inside.{At}
@@ -118,13 +118,13 @@ module _ (s : List ℕ) (sh : Sheet) (k at : ℕ) (p : At s sh k at) (more : k <
 
   -- what it says of a setting
   setting_said : (b : List ℕ) (g : ℕ) {stages : List ℕ} → BodyHolds sh.edition stages g b (entry_at sh k)
-      → setting_in (kind_of g) b ≡ pick (is_setting (entry_at sh k)) (Of (setting_type (entry_at sh k))) None
+      → setting_in (kind_of g) b ≡ pick (is_setting (entry_at sh k)) (Some (setting_type (entry_at sh k))) None
   unfolding setting_in is_setting setting_type
   setting_said b g (a_setting q v x e f) =
-      ap (λ (j : Kind). setting_in j b) q ∙ ap (λ (u : Instance). Of u.ty) (sym (literal_holds sh.edition true b 0 v (length b) e).value) ∙ rw x
+      ap (λ (j : Kind). setting_in j b) q ∙ ap (λ (u : Instance). Some u.ty) (sym (literal_holds sh.edition true b 0 v (length b) e).value) ∙ rw x
   setting_said b g (an_expression q t x e) = ap (λ (j : Kind). setting_in j b) q ∙ rw x
 
-  pub setting_there : setting_of s at ≡ pick (is_setting (entry_at sh k)) (Of (setting_type (entry_at sh k))) None
+  pub setting_there : setting_of s at ≡ pick (is_setting (entry_at sh k)) (Some (setting_type (entry_at sh k))) None
   setting_there = setting_said (part s (span_of s at).start (span_of s at).len) (span_of s at).stage (holds sh.edition span_body)
 
   -- the entry is one that the reader lets through after k others
@@ -187,9 +187,9 @@ module _ (s : List ℕ) (at : ℕ) (r : Span) (w : r ≡ span_of s at) (k : Kind
   of_kind_lem : (b : List ℕ) → b ≡ part s r.start r.len → setting_in k b ≡ setting_of s at
   of_kind_lem b q = ap (λ (j : Kind). setting_in j b) e ∙ ap (setting_in (kind_of r.stage)) q ∙ ap (λ (x : Span). setting_in (kind_of x.stage) (part s x.start x.len)) w
 
-  pub setting_read : k ≡ kind.Setting → (b : List ℕ) → b ≡ part s r.start r.len → (ty : ℕ) → ty ≡ get_or b 1 0 → Of ty ≡ setting_of s at
+  pub setting_read : k ≡ kind.Setting → (b : List ℕ) → b ≡ part s r.start r.len → (ty : ℕ) → ty ≡ get_or b 1 0 → Some ty ≡ setting_of s at
   unfolding setting_in
-  setting_read q b f ty g = ap Of g ∙ ap (λ (j : Kind). setting_in j b) (sym q) ∙ of_kind_lem b f
+  setting_read q b f ty g = ap Some g ∙ ap (λ (j : Kind). setting_in j b) (sym q) ∙ of_kind_lem b f
 
   pub setting_none : k ≡ kind.Expression → None ≡ setting_of s at
   unfolding setting_in

@@ -1,5 +1,5 @@
 -- Laws of the pass that marks the dependents of an entry.
-use mathlib.Core.Path.{◌≡◌, sym, ap, ap₂, ◌∙◌}
+use mathlib.Core.Path.{◌≡◌, refl, sym, ap, ap₂, ◌∙◌}
 use mathlib.Core.List.{List, Memᴰ}
 use mathlib.Core.Bool.{Bool, true, false, ◌||◌}
 use mathlib.Core.Logic.{⊎_elim}
@@ -9,6 +9,7 @@ use native.Mathlib.Nat.{le_antisymm}
 use lib.ListN.{length, get_or, set, replicate, length-set, length-replicate, get_or-replicate, get_or-eq_default}
 use lib.Seq.{get_or-set_same, get_or-set_other, ext_get_or}
 use borrow.Author.Tests.{ne_eqb}
+use Rattle.std.specs.Int.{from_bool}
 use Rattle.integer.proofs.Order.{le_or_lt}
 use Rattle.low.specs.Bytes.{part, up_to}
 use Rattle.low.proofs.Tables.{table_long, table_at}
@@ -18,16 +19,25 @@ use Rattle.sheet.specs.Tree.{Entry}
 use Rattle.sheet.specs.Node.{any_marked}
 use Rattle.sheet.specs.Sheet.{Sheet}
 use Rattle.sheet.specs.Accepted.{Body, Bodied, NamesMarked}
-use Rattle.entries.specs.declared.Advance.{Advance}
 use Rattle.entries.specs.declared.Span.{Span}
 use Rattle.entries.specs.Entries.{entry_at, refs_of}
 use Rattle.entries.specs.Depend.{any, depends, touched, tally}
 use Rattle.entries.specs.Records.{span_of}
-use Rattle.entries.specs.Inside.{At, Here, Accepted, Ready, Turned, Turns, Depended, Dependents}
+use Rattle.entries.specs.Inside.{At, Here, Accepted, Ready, Depended, Dependents}
 use Rattle.entries.proofs.Chains.{any_nothing, touched_self, not_before, no_depends, depends_is, marked_depends, tally_more, tally_none, tally_small}
 use Rattle.entries.proofs.Places.{few, same_sheet, entry_few, span_body, span_after, refs_past, earlier}
 
 -- ---- one record: r is what was read of it, b its body
+-- entry k has its turn: it is marked and counted if it names a marked entry
+pub record Turned (s : List ℕ) (sh : Sheet) (k : ℕ) (ms ns : List Bool) (next count : ℕ) : Type 0 where
+  pub after : At s sh (k + 1) next
+  pub marked : ns ≡ set ms k (any_marked ms (refs_of sh k))
+  pub counted : count ≡ pick (any_marked ms (refs_of sh k)) 1 0
+
+counted_as : (hit : Bool) → from_bool hit ≡ pick hit 1 0
+counted_as true = refl
+counted_as false = refl
+
 -- what the code asks of a body is said of the one edition
 pub plain_body : (ed : Edition) (stage : ℕ) (b : List ℕ) (x : Entry) → Body ed stage b x → Body plain stage b x
 plain_body plain stage b x y = y
@@ -44,18 +54,12 @@ module _ (s : List ℕ) (at : ℕ) (r : Span) (w : r ≡ span_of s at) (b : List
   pub here_bodied : (k : ℕ) → Here s k at → Bodied plain r.stage b
   here_bodied k y = record { entry = entry_at y.sheet k; body = its_body y.sheet k y.place y.more }
 
-  module _ (k : ℕ) (ms : List Bool) (hit : Bool) (f : NamesMarked plain r.stage b ms hit) where
-    told : (sh : Sheet) → At s sh k at → k < length sh.entries → (c : Bool) → hit ≡ c → any_marked ms (refs_of sh k) ≡ c
-    unfolding NamesMarked refs_of
-    told sh p more c i = sym (f (entry_at sh k) (its_body sh k p more)) ∙ i
-
-    pub turns_hit : hit ≡ true → Turns s k at ms (set ms k true) (record { next = r.next; count = 1 })
-    unfolding Turns
-    turns_hit i = λ sh p more. let t = told sh p more true i in record { after = its_next sh k p more; marked = rw t; counted = rw t }
-
-    pub turns_not : hit ≡ false → Turns s k at ms (set ms k false) (record { next = r.next; count = 0 })
-    unfolding Turns
-    turns_not i = λ sh p more. let t = told sh p more false i in record { after = its_next sh k p more; marked = rw t; counted = rw t }
+  pub turned : (sh : Sheet) (k : ℕ) → At s sh k at → k < length sh.entries → (ms : List Bool) (hit : Bool) → NamesMarked plain r.stage b ms hit
+      → (one : ℕ) → one ≡ from_bool hit → Turned s sh k ms (set ms k hit) r.next one
+  unfolding NamesMarked refs_of
+  turned sh k p more ms hit f one e =
+      let t : hit ≡ any_marked ms (refs_of sh k) = f (entry_at sh k) (its_body sh k p more) in
+      record { after = its_next sh k p more; marked = ap (set ms k) t; counted = e ∙ counted_as hit ∙ ap (λ (h : Bool). pick h 1 0) t }
 
 pub here_few : (s : List ℕ) (k at : ℕ) → Here s k at → k < 128
 here_few s k at y = entry_few s y.sheet k at y.place y.more
@@ -118,8 +122,11 @@ module _ (s : List ℕ) (n i k at : ℕ) (ms : List Bool) (count : ℕ) (f : Mar
   early : (k j : ℕ) → Memᴰ j (refs_of its k) → j < k
   early = earlier s its f.accepted.end f.accepted.read
 
+  pub marking_more : k < n → k < length its.entries
+  marking_more h = omega (arith, f.accepted.count)
+
   pub marking_here : k < n → Here s k at
-  marking_here h = record { sheet = its; place = f.place; more = omega (arith, f.accepted.count) }
+  marking_here h = record { sheet = its; place = f.place; more = marking_more h }
 
   pub marking_few : count ≤ k
   marking_few = omega (arith, f.counted, tally_small (depends (refs_of its) i) k)
@@ -130,19 +137,15 @@ module _ (s : List ℕ) (n i k at : ℕ) (ms : List Bool) (count : ℕ) (f : Mar
   chosen : touched (refs_of its) i k ≡ depends (refs_of its) i k
   chosen = ap (λ (b : Bool). b || depends (refs_of its) i k) (ne_eqb k i (λ e. let p = f.past in omega arith))
 
-  module _ (h : k < n) (ns : List Bool) (t : Advance) (w : Turns s k at ms ns t) where
-    turned : Turned s its k ms ns t
-    unfolding Turns
-    turned = w its f.place (omega (arith, f.accepted.count))
-
-    pub marking_small : t.count ≤ 1
+  module _ (h : k < n) (ns : List Bool) (next one : ℕ) (turned : Turned s its k ms ns next one) where
+    pub marking_small : one ≤ 1
     marking_small = go (any_marked ms (refs_of its k)) turned.counted
       where
-        go : (b : Bool) → t.count ≡ pick b 1 0 → t.count ≤ 1
+        go : (b : Bool) → one ≡ pick b 1 0 → one ≤ 1
         go true e = omega arith
         go false e = omega arith
 
-    pub marking_next : Marking s n i (k + 1) t.next ns (count + t.count)
+    pub marking_next : Marking s n i (k + 1) next ns (count + one)
     marking_next =
         record {
           accepted = f.accepted;

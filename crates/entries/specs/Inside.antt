@@ -1,11 +1,8 @@
 -- What calls that go through an accepted sheet ask and tell.
-use Rattle.std.specs.Prelude.{ℕ, ◌+◌, ◌-◌, ◌≤◌, ◌<◌, ◌≡◌, Bool, List, length, take, set}
+use Rattle.std.specs.Prelude.{ℕ, ◌-◌, ◌≤◌, ◌<◌, ◌≡◌, Bool, List, length, take}
 use Rattle.low.specs.Bytes.{up_to}
 use Rattle.low.specs.Read.{found}
-use Rattle.value.specs.Pattern.{pick}
-use Rattle.sheet.specs.Node.{any_marked}
 use Rattle.sheet.specs.Sheet.{Sheet, read_records, read_sheet}
-use Rattle.entries.specs.declared.Advance.{Advance}
 use Rattle.entries.specs.Entries.{refs_of}
 use Rattle.entries.specs.Depend.{depends, touched, tally}
 
@@ -33,15 +30,6 @@ pub record Ready (s : List ℕ) (n i place : ℕ) : Type 0 where
   pub accepted : Accepted s n
   pub here : At s accepted.sheet i place
   pub among : i < n
-
--- entry k has its turn: it is marked and counted if it names a marked entry
-pub record Turned (s : List ℕ) (sh : Sheet) (k : ℕ) (ms ns : List Bool) (t : Advance) : Type 0 where
-  pub after : At s sh (k + 1) t.next
-  pub marked : ns ≡ set ms k (any_marked ms (refs_of sh k))
-  pub counted : t.count ≡ pick (any_marked ms (refs_of sh k)) 1 0
-
-unfoldable pub Turns : List ℕ → ℕ → ℕ → List Bool → List Bool → Advance → Type 0
-Turns s k at ms ns t = (sh : Sheet) → At s sh k at → k < length sh.entries → Turned s sh k ms ns t
 
 -- entry i and its dependents are marked, of 128, and its dependents counted
 pub record Depended (sh : Sheet) (n i : ℕ) (ms : List Bool) (count : ℕ) : Type 0 where

@@ -1,17 +1,15 @@
 -- The record at a place, as its head tells it. Of an accepted sheet it is the record of an entry (proofs/Places.antt).
-use Rattle.std.specs.Prelude.{ℕ, zero, suc, ◌+◌, List, get_or}
+use Rattle.std.specs.Prelude.{ℕ, zero, suc, ◌+◌, List, get_or, Option, Some, None, Result, Ok, Err}
 use Rattle.low.specs.Bytes.{part}
+use Rattle.low.specs.declared.Refused.{Refused}
 use Rattle.low.specs.Read.{Read, found, refused}
 use Rattle.sheet.specs.declared.Head.{Head}
-use Rattle.sheet.specs.declared.Head.TheVariants as head
 use Rattle.sheet.specs.declared.Kind.{Kind}
 use Rattle.sheet.specs.declared.Kind.TheVariants as kind
 use Rattle.sheet.specs.Stage.{kind_of}
 use Rattle.sheet.specs.Record.{read_head}
 use Rattle.sheet.specs.Sheet.{Sheet}
 use Rattle.entries.specs.declared.Span.{Span}
-use Rattle.entries.specs.declared.Setting.{Setting}
-use Rattle.entries.specs.declared.Setting.TheVariants.{Of, None}
 
 -- where the records of a sheet begin; 0 for a refused one
 unfoldable pub begins_in : Read Sheet → ℕ
@@ -19,9 +17,9 @@ begins_in (found sh n) = sh.begins
 begins_in (refused k p) = 0
 
 -- stage byte, start and length of the body, and the place after it; an empty body where no head can be read
-unfoldable pub span_in : ℕ → Head → Span
-span_in at (head.Record stage start len) = record { stage = stage; start = start; len = len; next = start + len }
-span_in at (head.Refused k p) = record { stage = 0; start = at; len = 0; next = at }
+unfoldable pub span_in : ℕ → Result Head Refused → Span
+span_in at (Ok h) = record { stage = h.stage; start = h.start; len = h.len; next = h.start + h.len }
+span_in at (Err r) = record { stage = 0; start = at; len = 0; next = at }
 
 abbrev pub span_of : List ℕ → ℕ → Span
 span_of s at = span_in at (read_head s at)
@@ -31,10 +29,10 @@ unfoldable pub place_after : List ℕ → ℕ → ℕ → ℕ
 place_after s at zero = at
 place_after s at (suc k) = (span_of s (place_after s at k)).next
 
--- whether a record is a setting's, and of which type: that of its one node
-unfoldable pub setting_in : Kind → List ℕ → Setting
-setting_in kind.Setting b = Of (get_or b 1 0)
+-- the type of a setting, that of its one node; none where the record is no setting's
+unfoldable pub setting_in : Kind → List ℕ → Option ℕ
+setting_in kind.Setting b = Some (get_or b 1 0)
 setting_in kind.Expression b = None
 
-abbrev pub setting_of : List ℕ → ℕ → Setting
+abbrev pub setting_of : List ℕ → ℕ → Option ℕ
 setting_of s at = setting_in (kind_of (span_of s at).stage) (part s (span_of s at).start (span_of s at).len)

@@ -8,24 +8,10 @@ pub use depend::dependents;
 pub use spans::{begin, place_after, setting_at, span_at};
 
 // A record's stage byte, where its body starts and how long it is, and the place after the record.
-#[derive(Clone, Copy)]
+#[derive(Clone, Copy, Debug, PartialEq, Eq)]
 pub struct Span {
     pub stage: u8,
     pub start: usize,
     pub len: usize,
     pub next: usize,
-}
-
-// Whether a record is a setting's, and of which type.
-#[derive(Clone, Copy)]
-pub enum Setting {
-    Of(u8),
-    None,
-}
-
-// An entry's turn: the place after its record, and 1 if it is a dependent.
-#[derive(Clone, Copy)]
-pub struct Advance {
-    pub next: usize,
-    pub count: usize,
 }

@@ -3,8 +3,8 @@ ghost use Rattle.std.specs.Prelude.{◌≡◌};
 ghost use Rattle.sheet.specs.Sheet.{read_sheet};
 ghost use Rattle.entries.specs.Records.{begins_in, span_of, place_after, setting_of};
 
-use crate::{Setting, Span};
-use sheet::{Head, Kind};
+use crate::Span;
+use sheet::Kind;
 
 // Where the records of a sheet begin.
 pub fn begin(s: &[u8]) -> usize
@@ -17,7 +17,7 @@ pub fn begin(s: &[u8]) -> usize
 pub fn span_at(s: &[u8], at: usize) -> Span
     ensures { result ≡ span_of s.now at }
 {
-    let Head::Record { stage, start, len } = sheet::read_head(s, at) else {
+    let Ok(head) = sheet::read_head(s, at) else {
         return Span {
             stage: 0,
             start: at,
@@ -26,10 +26,10 @@ pub fn span_at(s: &[u8], at: usize) -> Span
         };
     };
     Span {
-        stage,
-        start,
-        len,
-        next: start + len,
+        stage: head.stage,
+        start: head.start,
+        len: head.len,
+        next: head.start + head.len,
     }
 }
 
@@ -37,23 +37,16 @@ pub fn span_at(s: &[u8], at: usize) -> Span
 pub fn place_after(s: &[u8], from: usize, k: usize) -> usize
     ensures { result ≡ place_after s.now from k }
 {
-    let mut at = from;
-    let mut i: usize = 0;
-    while i < k {
-        let r = span_at(s, at);
-        at = r.next;
-        i += 1;
-    }
-    at
+    (0..k).fold(from, |at, _| span_at(s, at).next)
 }
 
-// Whether the record at a place is a setting's, and of which type: that of its body.
-pub fn setting_at(s: &[u8], at: usize) -> Setting
+// The type of the setting whose record is at a place, as its body has it; none where the record is no setting's.
+pub fn setting_at(s: &[u8], at: usize) -> Option<u8>
     ensures { result ≡ setting_of s.now at }
 {
     let r = span_at(s, at);
     match sheet::kind_of(r.stage) {
-        Kind::Setting => Setting::Of(low::byte(sheet::body(s, r.start, r.len), 1)),
-        Kind::Expression => Setting::None,
+        Kind::Setting => Some(low::byte(sheet::body(s, r.start, r.len), 1)),
+        Kind::Expression => None,
     }
 }

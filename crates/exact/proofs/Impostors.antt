@@ -2,17 +2,17 @@
 use mathlib.Core.Path.{◌≡◌, refl}
 use lib.IntN.{pos, negsuc, ◌+ℤ◌, ◌-ℤ◌, ◌*ℤ◌}
 use mir.Syntax.{w64}
-use Rattle.integer.specs.declared.Whole.TheVariants.{Value, Over}
+use Rattle.std.proofs.Common.{Some, None}
 use Rattle.integer.specs.Range.{minimum, whole_of}
 
 -- a sum that wraps, which has the minimum; a sum of two signs refused at the end of the range
-pub sums : (whole_of (pos 9223372036854775807 +ℤ pos 1) ≡ Over) × (whole_of (pos 9223372036854775807 +ℤ minimum w64) ≡ Value (negsuc 0))
+pub sums : (whole_of (pos 9223372036854775807 +ℤ pos 1) ≡ None) × (whole_of (pos 9223372036854775807 +ℤ minimum w64) ≡ Some (negsuc 0))
 sums = (refl, refl)
 
 -- the minimum never subtracted, as by a program that adds the negative; a difference that wraps, which has the maximum
-pub differences : (whole_of (negsuc 0 -ℤ minimum w64) ≡ Value (pos 9223372036854775807)) × (whole_of (minimum w64 -ℤ pos 1) ≡ Over)
+pub differences : (whole_of (negsuc 0 -ℤ minimum w64) ≡ Some (pos 9223372036854775807)) × (whole_of (minimum w64 -ℤ pos 1) ≡ None)
 differences = (refl, refl)
 
 -- one limit on the size whatever the sign, which refuses the minimum; a product that wraps, which has 0
-pub products : (whole_of (minimum w64 *ℤ pos 1) ≡ Value (minimum w64)) × (whole_of (pos 4294967296 *ℤ pos 4294967296) ≡ Over)
+pub products : (whole_of (minimum w64 *ℤ pos 1) ≡ Some (minimum w64)) × (whole_of (pos 4294967296 *ℤ pos 4294967296) ≡ None)
 products = (refl, refl)

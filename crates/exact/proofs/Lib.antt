@@ -1,6 +1,4 @@
--- The laws of this crate, each stated once over the width. Assumes nothing.
-pub mod Parts
-pub mod Sum
+-- The laws of this crate. Assumes nothing.
 pub mod Product
 pub mod Single
 pub mod Impostors

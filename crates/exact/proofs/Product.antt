@@ -10,9 +10,15 @@ use lib.Signed.{mag, lt_z}
 use mir.Syntax.{Width, w64}
 use mir.Val.{Fits, SFits, bits, hbits, to_z, of_z}
 use mir.ValLaws.{to_z-of_z, to_z-neg, pow-bits}
-use Rattle.integer.specs.declared.Whole.TheVariants.{Value, Over}
+use Rattle.std.proofs.Common.{Some, None, div-lt_iff_lt-mul, le-div_iff_mul-le, pow_pos}
 use Rattle.integer.specs.Range.{in_unsigned, whole_of}
-use Rattle.integer.proofs.Range.{in_yes, whole_out, product_past, product_within}
+use Rattle.integer.proofs.Range.{in_yes, whole_out}
+
+product_past : (w : Width) (a b : ℕ) → zero < b → (2 ^ bits w - 1) / b < a → 2 ^ bits w ≤ a * b
+product_past w a b h k = omega (arith, (div-lt_iff_lt-mul h).0 k)
+
+product_within : (w : Width) (a b : ℕ) → zero < b → a ≤ (2 ^ bits w - 1) / b → a * b < 2 ^ bits w
+product_within w a b h k = omega (arith, (le-div_iff_mul-le h).0 k, pow_pos (bits w))
 
 -- the test `MAX / b < a`
 pub product_test : (w : Width) (a b : ℕ) → zero < b → ltb ((2 ^ bits w - 1) / b) a ≡ not (in_unsigned w (a * b))
@@ -55,17 +61,17 @@ module _ (w : Width) (x y : ℤ) (f : SFits w x) (g : SFits w y) (a b : ℕ) (p 
   product_is = rw (to_z-of_z w x f, to_z-of_z w y g, sizes) (sym (by_sign x y))
 
 pub product_refused : {x y : ℤ} {a b : ℕ} {t : Bool} → SFits w64 x → SFits w64 y → a ≡ nat_abs (to_z w64 (of_z w64 x)) → b ≡ nat_abs (to_z w64 (of_z w64 y))
-    → t ≡ not (in_unsigned w64 (a * b)) → t ≡ true → Over ≡ whole_of (x *ℤ y)
+    → t ≡ not (in_unsigned w64 (a * b)) → t ≡ true → None ≡ whole_of (x *ℤ y)
 product_refused {x} {y} {a} {b} f g p q e k = whole_out (x *ℤ y) (product_out w64 x y f g a b p q e k)
 
 -- ---- a size with a sign, as an exact 64-bit answer
-pub whole_zero : (t : Bool) (m : ℕ) → m ≡ 0 → Value (pos 0) ≡ whole_of (signed_by t m)
+pub whole_zero : (t : Bool) (m : ℕ) → m ≡ 0 → Some (pos 0) ≡ whole_of (signed_by t m)
 whole_zero true m e = rw e
 whole_zero false m e = rw e
 
-pub whole_neg : (t : Bool) (m : ℕ) → t ≡ true → (m ≡ 0 → ⊥) → m - 1 < 2 ^ 63 → Value (to_z w64 (18446744073709551615 - (m - 1))) ≡ whole_of (signed_by t m)
+pub whole_neg : (t : Bool) (m : ℕ) → t ≡ true → (m ≡ 0 → ⊥) → m - 1 < 2 ^ 63 → Some (to_z w64 (18446744073709551615 - (m - 1))) ≡ whole_of (signed_by t m)
 whole_neg t zero e n h = absurd (n refl)
-whole_neg t (suc k) e n h = rw (e, in_yes w64 (negsuc k) (record { sfits = less k h })) (ap Value (ap (to_z w64) (turn k) ∙ to_z-neg w64 k (less k h)))
+whole_neg t (suc k) e n h = rw (e, in_yes w64 (negsuc k) (record { sfits = less k h })) (ap Some (ap (to_z w64) (turn k) ∙ to_z-neg w64 k (less k h)))
   where
     turn : (k : ℕ) → 18446744073709551615 - (suc k - 1) ≡ 2 ^ 64 - suc k
     turn k = omega arith
@@ -73,15 +79,15 @@ whole_neg t (suc k) e n h = rw (e, in_yes w64 (negsuc k) (record { sfits = less 
     less : (k : ℕ) → suc k - 1 < 2 ^ 63 → k < 2 ^ 63
     less k h = omega arith
 
-pub whole_neg_over : (t : Bool) (m : ℕ) → t ≡ true → (m ≡ 0 → ⊥) → 2 ^ 63 ≤ m - 1 → Over ≡ whole_of (signed_by t m)
+pub whole_neg_over : (t : Bool) (m : ℕ) → t ≡ true → (m ≡ 0 → ⊥) → 2 ^ 63 ≤ m - 1 → None ≡ whole_of (signed_by t m)
 whole_neg_over t zero e n h = absurd (n refl)
 whole_neg_over t (suc k) e n h = rw e (whole_out (negsuc k) (more k h))
   where
     more : (k : ℕ) → 2 ^ 63 ≤ suc k - 1 → 2 ^ 63 ≤ k
     more k h = omega arith
 
-pub whole_pos : (t : Bool) (m : ℕ) → t ≡ false → m < 2 ^ 63 → Value (to_z w64 m) ≡ whole_of (signed_by t m)
+pub whole_pos : (t : Bool) (m : ℕ) → t ≡ false → m < 2 ^ 63 → Some (to_z w64 m) ≡ whole_of (signed_by t m)
 whole_pos t m e h = rw (e, in_yes w64 (pos m) (record { sfits = h }))
 
-pub whole_pos_over : (t : Bool) (m : ℕ) → t ≡ false → 2 ^ 63 ≤ m → Over ≡ whole_of (signed_by t m)
+pub whole_pos_over : (t : Bool) (m : ℕ) → t ≡ false → 2 ^ 63 ≤ m → None ≡ whole_of (signed_by t m)
 whole_pos_over t m e h = rw e (whole_out (pos m) h)

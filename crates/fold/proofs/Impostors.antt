@@ -15,7 +15,7 @@ use Rattle.operand.specs.declared.Instance.{Instance}
 use Rattle.operand.specs.Outcome.{refused_with}
 use Rattle.dispatch.specs.Meaning.{by_component, on_converted, converted_to, judged, binary_meaning}
 use Rattle.slot.specs.Slot.{bytes_of, said_by, slot, put, each, component_formed, components_formed, value_formed, blank, formed, well_formed, reference_to}
-use Rattle.low.specs.Read.{found, must, then_read, read_as}
+use Rattle.low.specs.Read.{found, must, then_read, read_as, refusal}
 use Rattle.sheet.specs.Tree.{literal, reference, binary, setting, expression, names, names_of}
 use Rattle.sheet.specs.Record.{read_head, read_record}
 use Rattle.sheet.specs.Sheet.{sheet_of, read_records, read_from, read_sheet, counted_of}
@@ -23,7 +23,7 @@ use Rattle.sheet.proofs.Example.{example}
 use Rattle.entries.specs.Entries.{entry_at, refs_of, is_setting, setting_type}
 use Rattle.entries.specs.Depend.{any, chain, tally}
 use Rattle.work.specs.Meaning.{on_two, meaning, entry_meaning}
-use Rattle.low.specs.declared.Counted.TheVariants.{Done, Refused}
+use Rattle.std.specs.Prelude.{Ok}
 use Rattle.types.specs.Edition.{plain}
 use Rattle.fold.specs.Fresh.{means_of, evaluated, fresh_answer}
 use Rattle.fold.specs.Change.{content, fault_of, with_content, changed, change_answer, change_bytes, change_marks}
@@ -52,15 +52,15 @@ unfolding kept_of
 example_read = example
 
 -- check: a refusal is told with its place; and no count but the sheet's own is told
-pub place_told : counted_of (read_sheet (recorded 4 0 [])) ≡ Refused 23 2
+pub place_told : counted_of (read_sheet (recorded 4 0 [])) ≡ refusal 23 2
 unfolding read_records read_record read_head must then_read read_as read_from read_sheet
 place_told = refl
 
-pub entries_counted : counted_of (read_sheet sheet) ≡ Done 3
+pub entries_counted : counted_of (read_sheet sheet) ≡ Ok 3
 entries_counted = rw example_read
 
 -- evaluate: results of another size are not filled
-pub larger_refused : fresh_answer (read_sheet sheet) (replicate 544 0) ≡ Refused 30 0
+pub larger_refused : fresh_answer (read_sheet sheet) (replicate 544 0) ≡ refusal 30 0
 unfolding fresh_answer must
 larger_refused = rw example_read
 
@@ -70,16 +70,16 @@ unfolding on_two
 left_refusal_first = refl
 
 -- change: content of another type is refused, also where the setting's slot has that type
-pub other_type_refused : change_answer (read_sheet sheet) results 0 5 0 ≡ Refused 32 0
+pub other_type_refused : change_answer (read_sheet sheet) results 0 5 0 ≡ refusal 32 0
 unfolding change_answer fault_of is_setting setting_type entry_at must
 other_type_refused = rw example_read
 
-pub slot_type_refused : change_answer (read_sheet sheet) (0 ∷ 3 ∷ replicate 406 0) 0 3 32 ≡ Refused 32 0
+pub slot_type_refused : change_answer (read_sheet sheet) (0 ∷ 3 ∷ replicate 406 0) 0 3 32 ≡ refusal 32 0
 unfolding change_answer fault_of is_setting setting_type entry_at must
 slot_type_refused = rw example_read
 
 -- change: an entry that depends by a chain is counted
-pub dependents_counted : change_answer (read_sheet sheet) results 0 4 32 ≡ Done 2
+pub dependents_counted : change_answer (read_sheet sheet) results 0 4 32 ≡ Ok 2
 unfolding change_answer fault_of is_setting setting_type entry_at must refs_of names names_of any chain tally
 dependents_counted = rw example_read
 

@@ -1,13 +1,14 @@
 -- Laws of the loop that works the marked entries of an accepted sheet, and of what it is used for.
 use mathlib.Core.Path.{◌≡◌, refl, sym, ap, ◌∙◌}
 use mathlib.Core.List.{List, Memᴰ}
-use mathlib.Core.Bool.{Bool, true, false, ◌&&◌, not}
+use mathlib.Core.Bool.{Bool, true, false, ◌&&◌}
 use Prim.Native.Nat.{ℕ, ◌+◌, ◌*◌, ◌/◌, ◌%◌, ◌≤◌, ◌<◌}
 use native.Mathlib.Omega.{arith}
 use native.Mathlib.Nat.{le_antisymm, zero-add}
-use lib.Dec.{eqb}
+use Rattle.std.specs.Prelude.{Some, None}
 use lib.ListN.{length, get_or, replicate, get_or-replicate}
-use borrow.Author.Tests.{eq-eqb, ne_eqb, eqb-true, eqb-false, lt-leb, le-leb, not-true, not-false}
+use lib.Dec.{eqb}
+use borrow.Author.Tests.{lt-leb, le-leb, eq-eqb, ne_eqb, eqb-true, eqb-false}
 use Rattle.low.specs.Bytes.{part}
 use Rattle.low.specs.Read.{found}
 use Rattle.low.proofs.Tables.{table_at}
@@ -35,7 +36,7 @@ use Rattle.fold.specs.Inside.{Placed, marked_from, Works, WorksAll, Found, Appli
 use Rattle.fold.proofs.Evaluated.{evaluated_more, evaluated_none, evaluated_chosen}
 use Rattle.fold.proofs.Changes.{Ordered, changed_marked}
 
--- ---- the size of the results
+-- ---- a size in whole slots
 pub sized_is : (size n : ℕ) → (eqb (size / 136) n && eqb (size % 136) 0) ≡ eqb size (136 * n)
 sized_is size n = go (eqb (size / 136) n) refl (eqb (size % 136) 0) refl
   where
@@ -58,18 +59,18 @@ ordered s sh z good = record { earlier = earlier s sh z good; local = record { w
 
 -- ---- one entry: r is what was read of its record, b its body
 module _ (s : List ℕ) (at : ℕ) (r : Span) (w : r ≡ span_of s at) (k : ℕ) (marks : List Bool) (l : List ℕ) where
-  pub works_not : not (get_or marks k false) ≡ true → Works s k at marks l l r.next
+  pub works_not : get_or marks k false ≡ false → Works s k at marks l l r.next
   unfolding Works
-  works_not q = λ sh p more. record { after = rw w (span_after s sh k at p more); wrote = rw (not-true (get_or marks k false) q) }
+  works_not q = λ sh p more. record { after = rw w (span_after s sh k at p more); wrote = rw q }
 
-  pub works_is : not (get_or marks k false) ≡ false → (b : List ℕ) → b ≡ part s r.start r.len → (o : Outcome) → BodyMeans plain r.stage b l o
+  pub works_is : get_or marks k false ≡ true → (b : List ℕ) → b ≡ part s r.start r.len → (o : Outcome) → BodyMeans plain r.stage b l o
       → (x : List ℕ) → x ≡ put l k (bytes_of o) → Works s k at marks l x r.next
   unfolding Works BodyMeans means_of
   works_is q b e o m x h = λ sh p more.
       record {
         after = its_next s at r w b e sh k p more;
         wrote =
-            rw (not-false (get_or marks k false) q)
+            rw q
             (h ∙ ap (λ (y : Outcome). put l k (bytes_of y)) (meant sh p more));
       }
     where
@@ -143,15 +144,18 @@ all_worked s n l r y h =
     ∙ ap (λ (j : ℕ). evaluated (means_of y.sheet) (λ k. true) j l) (sym y.count)
 
 -- ---- the way to entry i
-pub found_not : (s : List ℕ) (n i r : ℕ) → n ≤ i → Found s n i r
+pub found_not : (s : List ℕ) (n i : ℕ) → n ≤ i → Found s n i None
 unfolding Found
-found_not s n i r h = λ sh z good c q. absurd (omega arith)
+found_not s n i h = h
 
-pub found_at : (s : List ℕ) (n i at r : ℕ) → at ≡ begins_in (read_sheet s) → r ≡ place_after s at i → Found s n i r
+pub found_at : (s : List ℕ) (n i at r : ℕ) → i < n → at ≡ begins_in (read_sheet s) → r ≡ place_after s at i → Found s n i (Some r)
 unfolding Found begins_in
-found_at s n i at r e f = λ sh z good c q.
-    let b : at ≡ sh.begins = e ∙ ap begins_in good in
-    rw (f, b) (rw (zero-add i) at (place_there s sh 0 sh.begins (at_begin s sh z good) i (omega arith)))
+found_at s n i at r h e f = (
+  h,
+  λ sh z good c.
+      let b : at ≡ sh.begins = e ∙ ap begins_in good in
+      rw (f, b) (rw (zero-add i) at (place_there s sh 0 sh.begins (at_begin s sh z good) i (omega arith))),
+)
 
 -- ---- the change of setting i
 -- new content in the setting's slot

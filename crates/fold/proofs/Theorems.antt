@@ -10,7 +10,7 @@ use lib.Dec.{eqb}
 use lib.ListN.{length, length-set, get_or}
 use lib.Seq.{get_or-set_same, get_or-set_other}
 use borrow.Author.Tests.{eq-eqb, eqb-true, eqb-false}
-use Rattle.low.specs.declared.Counted.TheVariants.{Done}
+use Rattle.std.specs.Prelude.{Ok}
 use Rattle.low.specs.Bytes.{up_to}
 use Rattle.low.specs.Read.{found, must}
 use Rattle.low.proofs.Tables.{table_at}
@@ -74,12 +74,12 @@ module _ (s : List ℕ) (es : Sheet) (z : ℕ) (good : read_sheet s ≡ found es
     unfolding change_bytes
     bytes_are = rw (good, ok)
 
-    answer_is : change_answer (read_sheet s) l i ty bits ≡ Done (tally (depends (refs_of es) i) (length es.entries))
+    answer_is : change_answer (read_sheet s) l i ty bits ≡ Ok (tally (depends (refs_of es) i) (length es.entries))
     unfolding change_answer
     answer_is = rw (good, ok)
 
     -- a change that no check refuses answers a count, and count and buffer are what is asked
-    pub demand : (count : ℕ) × (change_answer (read_sheet s) l i ty bits ≡ Done count)
+    pub demand : (count : ℕ) × (change_answer (read_sheet s) l i ty bits ≡ Ok count)
         × Changed (means_of es) (refs_of es) i (content_bytes ty bits) (length es.entries) l (change_bytes (read_sheet s) l i ty bits) count
     demand = (
       tally (depends (refs_of es) i) (length es.entries),
@@ -89,10 +89,10 @@ module _ (s : List ℕ) (es : Sheet) (z : ℕ) (good : read_sheet s ≡ found es
 
     -- what is asked leaves one outcome
     pub demand_only : (r : List ℕ) (count : ℕ) → Changed (means_of es) (refs_of es) i (content_bytes ty bits) (length es.entries) l r count
-        → (change_answer (read_sheet s) l i ty bits ≡ Done count) × (change_bytes (read_sheet s) l i ty bits ≡ r)
+        → (change_answer (read_sheet s) l i ty bits ≡ Ok count) × (change_bytes (read_sheet s) l i ty bits ≡ r)
     demand_only r count p =
         let w = changed_only (means_of es) (refs_of es) ord i (length es.entries) passed.among (content_bytes ty bits) (bytes_long (value_of (content ty bits))) l r count passed.sized p in
-        (answer_is ∙ ap Done (sym w.1), bytes_are ∙ sym w.0)
+        (answer_is ∙ ap Ok (sym w.1), bytes_are ∙ sym w.0)
 
     bytes_long_still : length (change_bytes (read_sheet s) l i ty bits) ≡ length l
     bytes_long_still = demand.2.long ∙ sym passed.sized

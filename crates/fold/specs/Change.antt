@@ -1,9 +1,8 @@
 -- The change of a setting: its checks, and the buffer afterwards.
-use Rattle.std.specs.Prelude.{ℕ, Bool, ◌&&◌, List, eqb, length}
-use Rattle.low.specs.declared.Counted.{Counted}
-use Rattle.low.specs.declared.Counted.TheVariants.{Done, Refused}
+use Rattle.std.specs.Prelude.{ℕ, Bool, ◌&&◌, List, eqb, length, Result, Ok}
+use Rattle.low.specs.declared.Refused.{Refused}
 use Rattle.low.specs.Bytes.{up_to}
-use Rattle.low.specs.Read.{Read, found, refused, must}
+use Rattle.low.specs.Read.{Read, found, refused, must, refusal}
 use Rattle.types.specs.Edition.{Edition, in_edition}
 use Rattle.value.specs.Pattern.{pick, proper_of, kept_of}
 use Rattle.value.specs.Refusals as No
@@ -46,10 +45,10 @@ unfoldable pub changed : Means → (ℕ → List ℕ) → ℕ → List ℕ → �
 changed m refs i c n l = evaluated (with_content m i c) (touched refs i) n l
 
 -- what a change answers: the sheet's own refusals, those above, or the number of dependents
-unfoldable pub change_answer : Read Sheet → List ℕ → ℕ → ℕ → ℕ → Counted
+unfoldable pub change_answer : Read Sheet → List ℕ → ℕ → ℕ → ℕ → Result ℕ Refused
 change_answer (found sh n) l i ty bits =
-    pick (eqb (fault_of sh (length l) i ty bits) 0) (Done (tally (depends (refs_of sh) i) (length sh.entries))) (Refused (fault_of sh (length l) i ty bits) 0)
-change_answer (refused k p) l i ty bits = Refused k p
+    pick (eqb (fault_of sh (length l) i ty bits) 0) (Ok (tally (depends (refs_of sh) i) (length sh.entries))) (refusal (fault_of sh (length l) i ty bits) 0)
+change_answer (refused k p) l i ty bits = refusal k p
 
 -- the buffer afterwards; a refusal changes no byte
 unfoldable pub change_bytes : Read Sheet → List ℕ → ℕ → ℕ → ℕ → List ℕ

@@ -1,8 +1,7 @@
 -- Fresh evaluation: every slot of a buffer, in order.
-use Rattle.std.specs.Prelude.{ℕ, zero, suc, ◌*◌, Bool, true, List, eqb, length}
-use Rattle.low.specs.declared.Counted.{Counted}
-use Rattle.low.specs.declared.Counted.TheVariants.{Done, Refused}
-use Rattle.low.specs.Read.{Read, found, refused, must}
+use Rattle.std.specs.Prelude.{ℕ, zero, suc, ◌*◌, Bool, true, List, eqb, length, Result, Ok}
+use Rattle.low.specs.declared.Refused.{Refused}
+use Rattle.low.specs.Read.{Read, found, refused, must, refusal}
 use Rattle.value.specs.Pattern.{pick}
 use Rattle.value.specs.Refusals as No
 use Rattle.slot.specs.Slot.{bytes_of, put}
@@ -31,9 +30,9 @@ abbrev pub sized : Sheet → ℕ → Bool
 sized sh size = eqb size (136 * length sh.entries)
 
 -- what fresh evaluation answers: the sheet's own refusals, ResultsSize, or the number of entries
-unfoldable pub fresh_answer : Read Sheet → List ℕ → Counted
-fresh_answer (found sh n) l = must (sized sh (length l)) (Refused No.ResultsSize 0) (Done (length sh.entries))
-fresh_answer (refused k p) l = Refused k p
+unfoldable pub fresh_answer : Read Sheet → List ℕ → Result ℕ Refused
+fresh_answer (found sh n) l = must (sized sh (length l)) (refusal No.ResultsSize 0) (Ok (length sh.entries))
+fresh_answer (refused k p) l = refusal k p
 
 -- the buffer afterwards; a refusal changes no byte
 unfoldable pub fresh_bytes : Read Sheet → List ℕ → List ℕ

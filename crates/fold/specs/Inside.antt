@@ -1,6 +1,7 @@
 -- What the private functions ask and tell. No public contract cites it.
-use Rattle.std.specs.Prelude.{ℕ, ◌+◌, ◌<◌, ◌≡◌, Bool, false, ◌&&◌, List, leb, length, get_or}
+use Rattle.std.specs.Prelude.{ℕ, ◌+◌, ◌<◌, ◌≤◌, ◌≡◌, ◌≢◌, Bool, false, ◌&&◌, List, leb, length, get_or, Option, Some, None, Result, Ok, Err}
 use Rattle.low.specs.Bytes.{up_to}
+use Rattle.low.specs.declared.Refused.{Refused}
 use Rattle.low.specs.Read.{found}
 use Rattle.value.specs.Pattern.{pick}
 use Rattle.slot.specs.Slot.{put}
@@ -33,11 +34,17 @@ unfoldable pub WorksAll : List ℕ → ℕ → ℕ → List Bool → List ℕ �
 WorksAll s n k marks l r = (sh : Sheet) (z : ℕ) → read_sheet s ≡ found sh z → length sh.entries ≡ n → r ≡ evaluated (means_of sh) (marked_from k marks) n l
 
 -- where entry i starts, if there is one
-unfoldable pub Found : List ℕ → ℕ → ℕ → ℕ → Type 0
-Found s n i r = (sh : Sheet) (z : ℕ) → read_sheet s ≡ found sh z → length sh.entries ≡ n → i < n → At s sh i r
+unfoldable pub Found : List ℕ → ℕ → ℕ → Option ℕ → Type 0
+Found s n i (Some at) = (i < n) × ((sh : Sheet) (z : ℕ) → read_sheet s ≡ found sh z → length sh.entries ≡ n → At s sh i at)
+Found s n i None = n ≤ i
 
-unfoldable pub Judged : List ℕ → ℕ → ℕ → ℕ → ℕ → ℕ → ℕ → ℕ → Type 0
-Judged s size n at i ty bits r = (sh : Sheet) (z : ℕ) → read_sheet s ≡ found sh z → length sh.entries ≡ n → (i < n → At s sh i at) → r ≡ fault_of sh size i ty bits
+-- no check fails, and setting i starts here; or this is the first check that fails, and it has no place
+unfoldable pub Judges : List ℕ → Sheet → ℕ → ℕ → ℕ → ℕ → Result ℕ Refused → Type 0
+Judges s sh size i ty bits (Ok at) = (fault_of sh size i ty bits ≡ 0) × At s sh i at
+Judges s sh size i ty bits (Err z) = (fault_of sh size i ty bits ≡ z.number) × (z.number ≢ 0) × (z.place ≡ 0)
+
+unfoldable pub Judged : List ℕ → ℕ → ℕ → ℕ → ℕ → ℕ → Result ℕ Refused → Type 0
+Judged s size n i ty bits r = (sh : Sheet) (z : ℕ) → read_sheet s ≡ found sh z → length sh.entries ≡ n → Judges s sh size i ty bits r
 
 -- entry i of n was given the content, and its dependents were worked, marked and counted
 pub record AppliedTo (sh : Sheet) (n i ty bits : ℕ) (l r : List ℕ) (ms : List Bool) (count : ℕ) : Type 0 where

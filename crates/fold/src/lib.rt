@@ -9,31 +9,35 @@ ghost use Rattle.sheet.specs.Sheet.{read_sheet, counted_of};
 ghost use Rattle.fold.specs.Fresh.{fresh_answer, fresh_bytes};
 ghost use Rattle.fold.specs.Change.{change_answer, change_bytes, change_marks};
 
-use low::Counted;
+use low::Refused;
 use value::refusals;
 
 // Checks a sheet: how many entries it has, or the first check that fails.
-pub fn check(sheet: &[u8]) -> Counted
+pub fn check(sheet: &[u8]) -> Result<usize, Refused>
     ensures { result ≡ counted_of (read_sheet sheet.now) }
 {
     sheet::check(sheet)
 }
 
+// A refusal of what is lent beside the sheet: it has no place in it.
+fn refused(number: u8) -> Refused
+    ensures { result ≡ record { number = number; place = 0 } }
+{
+    Refused { number, place: 0 }
+}
+
 // Fresh evaluation: fills every slot of the results in order, whatever they held. Answers the number of entries.
-pub fn evaluate(sheet: &[u8], results: &mut [u8]) -> Counted
+pub fn evaluate(sheet: &[u8], results: &mut [u8]) -> Result<usize, Refused>
     ensures { (result ≡ fresh_answer (read_sheet sheet.now) results.old)
         × (results.new ≡ fresh_bytes (read_sheet sheet.now) results.old) }
 {
-    let seen = sheet::check(sheet);
-    let Counted::Done(n) = seen else {
-        return seen;
-    };
+    let n = sheet::check(sheet)?;
     if !turns::sized(results.len(), n) {
-        return Counted::Refused(refusals::RESULTS_SIZE, 0);
+        return Err(refused(refusals::RESULTS_SIZE));
     }
     let marks = [true; 128];
     marked::work_marked(sheet, results, n, 0, entries::begin(sheet), &marks);
-    Counted::Done(n)
+    Ok(n)
 }
 
 // Gives a setting new content and works its dependents, as `change` does, and marks the entries whose slots were worked.
@@ -44,25 +48,24 @@ pub fn change_marking(
     ty: u8,
     bits: u64,
     marks: &mut [bool; 128],
-) -> Counted
+) -> Result<usize, Refused>
     ensures { (result ≡ change_answer (read_sheet sheet.now) results.old entry ty bits)
         × (results.new ≡ change_bytes (read_sheet sheet.now) results.old entry ty bits)
         × (marks.new ≡ change_marks (read_sheet sheet.now) results.old entry ty bits marks.old) }
 {
-    let seen = sheet::check(sheet);
-    let Counted::Done(n) = seen else {
-        return seen;
-    };
-    let at = turns::find(sheet, n, entry);
-    let fault = turns::judge(sheet, results, n, at, entry, ty, bits);
-    if fault != 0 {
-        return Counted::Refused(fault, 0);
-    }
-    Counted::Done(turns::apply(sheet, results, n, entry as usize, at, ty, bits, marks))
+    let n = sheet::check(sheet)?;
+    let at = turns::judge(sheet, results.len(), n, entry, ty, bits)?;
+    Ok(turns::apply(sheet, results, n, entry as usize, at, ty, bits, marks))
 }
 
 // Gives a setting new content and works out each of its dependents over the slots as they stand. Answers how many there are.
-pub fn change(sheet: &[u8], results: &mut [u8], entry: u64, ty: u8, bits: u64) -> Counted
+pub fn change(
+    sheet: &[u8],
+    results: &mut [u8],
+    entry: u64,
+    ty: u8,
+    bits: u64,
+) -> Result<usize, Refused>
     ensures { (result ≡ change_answer (read_sheet sheet.now) results.old entry ty bits)
         × (results.new ≡ change_bytes (read_sheet sheet.now) results.old entry ty bits) }
 {

@@ -30,9 +30,7 @@ pub(crate) fn work_marked(
     ensures { WorksAll s.now n from marks.now results.old results.new }
 {
     let mut at = place;
-    let mut k = from;
-    while k < n {
+    for k in from..n {
         at = turn(s, results, marks, k, at);
-        k += 1;
     }
 }

@@ -1,14 +1,13 @@
 // The change of a setting: its checks, its content, and the turn of each dependent.
-ghost use Rattle.std.specs.Prelude.{◌≡◌, ◌*◌, eqb, length};
-ghost use Rattle.low.specs.Read.{must};
-ghost use Rattle.value.specs.Pattern.{proper_of};
+ghost use Rattle.std.specs.Prelude.{◌≡◌, ◌*◌, eqb};
 ghost use Rattle.slot.specs.Slot.{put};
 ghost use Rattle.entries.specs.Inside.{Ready};
 ghost use Rattle.fold.specs.Change.{content, content_bytes};
 ghost use Rattle.fold.specs.Inside.{Found, Judged, Applied};
 
 use crate::marked::work_marked;
-use entries::Setting;
+use crate::refused;
+use low::Refused;
 use operand::Instance;
 use value::refusals;
 
@@ -16,46 +15,42 @@ use value::refusals;
 pub(crate) fn sized(size: usize, n: usize) -> bool
     ensures { result ≡ eqb size (136 * n) }
 {
-    (size / 136 == n) & (size % 136 == 0)
+    n.checked_mul(136) == Some(size)
 }
 
-// The place of the record of entry i of n; 0 if there is no such entry.
-pub(crate) fn find(s: &[u8], n: usize, i: u64) -> usize
+// The place of the record of entry i of n, if there is such an entry.
+fn find(s: &[u8], n: usize, i: u64) -> Option<usize>
     ensures { Found s.now n i result }
 {
     if n as u64 <= i {
-        return 0;
+        return None;
     }
-    entries::place_after(s, entries::begin(s), i as usize)
+    Some(entries::place_after(s, entries::begin(s), i as usize))
 }
 
-// The checks of new content against the setting's own type: 26, 32, or 0 if both pass.
-fn judge_content(ty: u8, bits: u64, own: u8) -> u8
-    ensures { result ≡ must (proper_of ty bits) 26 (must (eqb ty own) 32 0) }
+// The checks of a change, over results of so many bytes: the place of the setting's record, or the first check that fails.
+pub(crate) fn judge(
+    s: &[u8],
+    size: usize,
+    n: usize,
+    i: u64,
+    ty: u8,
+    bits: u64,
+) -> Result<usize, Refused>
+    ensures { Judged s.now size n i ty bits result }
 {
+    if !sized(size, n) {
+        return Err(refused(refusals::RESULTS_SIZE));
+    }
+    let at = find(s, n, i).ok_or(refused(refusals::NOT_A_SETTING))?;
+    let own = entries::setting_at(s, at).ok_or(refused(refusals::NOT_A_SETTING))?;
     if !value::proper(ty, bits) {
-        return refusals::BAD_VALUE;
+        return Err(refused(refusals::BAD_VALUE));
     }
     if ty != own {
-        return refusals::SETTING_TYPE;
+        return Err(refused(refusals::SETTING_TYPE));
     }
-    0
-}
-
-// The number of the first check of a change that fails, or 0. The record of entry i is at a place, if there is such an entry.
-pub(crate) fn judge(s: &[u8], results: &[u8], n: usize, at: usize, i: u64, ty: u8, bits: u64) -> u8
-    ensures { Judged s.now (length results.now) n at i ty bits result }
-{
-    if !sized(results.len(), n) {
-        return refusals::RESULTS_SIZE;
-    }
-    if n as u64 <= i {
-        return refusals::NOT_A_SETTING;
-    }
-    let Setting::Of(own) = entries::setting_at(s, at) else {
-        return refusals::NOT_A_SETTING;
-    };
-    judge_content(ty, bits, own)
+    Ok(at)
 }
 
 // New content as a value, a NaN as it is kept.

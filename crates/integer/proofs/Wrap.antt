@@ -1,10 +1,13 @@
 -- Arithmetic that wraps, over the width: an operation on the bits of two numbers gives the bits of the wrapped result. Assumes nothing.
-use Rattle.std.proofs.Common.{◌≡◌, ℕ, suc, ◌+◌, ◌-◌, ◌*◌, ◌%◌, ◌^◌, ℤ, pos, negsuc, ◌+ℤ◌, ◌-ℤ◌, ◌*ℤ◌, neg_ℤ, sym, refl, ap, ◌∙◌, ap₂, mod-eq_of_lt, arith, pow_pos, Fits, SFits, to_z, of_z}
+use Rattle.std.proofs.Common.{◌≡◌, ℕ, suc, ◌+◌, ◌-◌, ◌*◌, ◌%◌, ◌^◌, ◌<◌, ℤ, pos, negsuc, ◌+ℤ◌, ◌-ℤ◌, ◌*ℤ◌, neg_ℤ, sym, refl, ap, ◌∙◌, ap₂, mod-eq_of_lt, mod-lt, arith, pow_pos, Fits, SFits, to_z, of_z}
 use lib.IntN.{ -ℤ-+ℤ_cancel, +ℤ_idl}
+use native.Mathlib.Nat.{mod-add-mod, add-mul-mod_self_right}
+use Rattle.std.specs.Int.{int_wrapping_neg}
 use mir.Syntax.{Width}
 use mir.Val.{bits}
-use mir.ValLaws.{to_z-of_z, to_z-Fits, half_full}
-use Rattle.integer.specs.Wrap.{mod_z, wrap_u, wrap_s}
+use mir.ValLaws.{to_z-of_z, to_z-Fits, to_z_pos, to_z-neg, half_full}
+use Rattle.integer.specs.Wrap.{mod_z, wrap_u, wrap_s, not_z}
+use Rattle.integer.proofs.Equal.{zero_fits}
 use Rattle.integer.proofs.Residue.{mod_z_add, mod_z_mul, mod_z_lt, cancel}
 
 -- a number of the width's range has its bits
@@ -74,8 +77,55 @@ respects_sub w x y = wrap_sub w x y (wrap_u w d) (wrap_u_fits w d) back
         ∙ ap (λ (v : ℕ). wrap_u w (pos (wrap_u w d + v))) (sym (small w (wrap_u w y) (wrap_u_fits w y)))
         ∙ respects_add w d b ∙ ap (wrap_u w) (-ℤ-+ℤ_cancel a b) ∙ small w (wrap_u w x) (wrap_u_fits w x)
 
--- r has the bits s that the operation makes of a and b, the bits of x and y
--- (a signed argument of a call arrives as it is read back from its bits, `to_z w (of_z w x)`)
+-- a wrapped number is read back from its bits
+pub wrap_back : (w : Width) (z : ℤ) → to_z w (of_z w (wrap_s w z)) ≡ wrap_s w z
+unfolding wrap_s
+wrap_back w z = to_z-of_z w (to_z w (wrap_u w z)) (to_z-Fits w (wrap_u w z) (wrap_u_fits w z))
+
+-- ---- what std's methods that wrap make of the bits of two numbers
+bits_fit : (w : Width) (x : ℤ) → SFits w x → Fits w (of_z w x)
+bits_fit w x f = rw (bits_wrap w x f) (wrap_u_fits w x)
+
+of_operation : (w : Width) (op : ℤ → ℤ → ℤ) → Respects w op → (x y : ℤ) (s : ℕ) → SFits w x → SFits w y → s ≡ wrap_u w (op (pos (of_z w x)) (pos (of_z w y))) → to_z w s ≡ wrap_s w (op x y)
+unfolding wrap_s
+of_operation w op h x y s f g e = ap (to_z w) (e ∙ ap₂ (λ (a b : ℕ). wrap_u w (op (pos a) (pos b))) (bits_wrap w x f) (bits_wrap w y g) ∙ h x y)
+
+pub wrapping_sub_u : (w : Width) (x y : ℕ) → Fits w x → Fits w y → (x + (2 ^ bits w - y)) % 2 ^ bits w ≡ wrap_u w (pos x -ℤ pos y)
+wrapping_sub_u w x y f g = wrap_sub_pos w x y ((x + (2 ^ bits w - y)) % 2 ^ bits w) f g (record { fits = mod-lt (x + (2 ^ bits w - y)) (pow_pos (bits w)) }) back
+  where
+    again : (m : ℕ) → y < m → x + (m - y) + y ≡ x + 1 * m
+    again m h = omega arith
+
+    back : ((x + (2 ^ bits w - y)) % 2 ^ bits w + y) % 2 ^ bits w ≡ x
+    back =
+        mod-add-mod (x + (2 ^ bits w - y)) (2 ^ bits w) y
+        ∙ ap (λ (v : ℕ). v % 2 ^ bits w) (again (2 ^ bits w) g.fits)
+        ∙ add-mul-mod_self_right x 1 (2 ^ bits w) ∙ mod-eq_of_lt f.fits
+
+module _ (w : Width) (x y : ℤ) (f : SFits w x) (g : SFits w y) where
+  pub wrapping_add : to_z w ((of_z w x + of_z w y) % 2 ^ bits w) ≡ wrap_s w (x +ℤ y)
+  wrapping_add = of_operation w ◌+ℤ◌ (respects_add w) x y _ f g (wrap_u_pos w (of_z w x + of_z w y))
+
+  pub wrapping_sub : to_z w ((of_z w x + (2 ^ bits w - of_z w y)) % 2 ^ bits w) ≡ wrap_s w (x -ℤ y)
+  wrapping_sub = of_operation w ◌-ℤ◌ (respects_sub w) x y _ f g (wrapping_sub_u w (of_z w x) (of_z w y) (bits_fit w x f) (bits_fit w y g))
+
+  -- and of a product that was called, on numbers that are read back from their bits
+  pub multiplied : {r : ℤ} → r ≡ wrap_s w (to_z w (of_z w x) *ℤ to_z w (of_z w y)) → to_z w (of_z w r) ≡ wrap_s w (x *ℤ y)
+  multiplied {r} e =
+      ap (λ (z : ℤ). to_z w (of_z w z)) (e ∙ ap₂ (λ (a b : ℤ). wrap_s w (a *ℤ b)) (to_z-of_z w x f) (to_z-of_z w y g)) ∙ wrap_back w (x *ℤ y)
+
+pub wrapping_neg : (w : Width) (x : ℤ) → SFits w x → int_wrapping_neg w x ≡ wrap_s w (neg_ℤ x)
+wrapping_neg w x f = ap (λ (n : ℕ). to_z w (n % 2 ^ bits w)) (none_more (2 ^ bits w - of_z w x)) ∙ wrapping_sub w (pos 0) x (zero_fits w) f ∙ ap (wrap_s w) (+ℤ_idl (neg_ℤ x))
+  where
+    none_more : (n : ℕ) → n ≡ 0 + n
+    none_more n = omega arith
+
+-- the same of a negation that was called, on a number that is read back from its bits
+pub negated : (w : Width) (x : ℤ) {r : ℤ} → SFits w x → r ≡ int_wrapping_neg w (to_z w (of_z w x)) → to_z w (of_z w r) ≡ wrap_s w (neg_ℤ x)
+negated w x {r} f e =
+    ap (λ (z : ℤ). to_z w (of_z w z)) (e ∙ ap (int_wrapping_neg w) (to_z-of_z w x f) ∙ wrapping_neg w x f) ∙ wrap_back w (neg_ℤ x)
+
+-- ---- r has the bits s that the operation makes of a and b, the bits of x and y that are read back from them
 bits_seen : (w : Width) {x : ℤ} {a : ℕ} → SFits w x → a ≡ of_z w (to_z w (of_z w x)) → a ≡ wrap_u w x
 bits_seen w {x} f p = p ∙ ap (of_z w) (to_z-of_z w x f) ∙ bits_wrap w x f
 
@@ -87,11 +137,3 @@ pub wrapped_is : (w : Width) (op : ℤ → ℤ → ℤ) → Respects w op → {x
     → a ≡ of_z w (to_z w (of_z w x)) → b ≡ of_z w (to_z w (of_z w y)) → s ≡ wrap_u w (op (pos a) (pos b)) → r ≡ to_z w s → to_z w (of_z w r) ≡ wrap_s w (op x y)
 wrapped_is w op h {x} {y} {r} {a} {b} {s} f g p q t e =
     read_wrapped w (op x y) r s (t ∙ ap₂ (λ (a b : ℕ). wrap_u w (op (pos a) (pos b))) (bits_seen w f p) (bits_seen w g q) ∙ h x y) e
-
--- the same of a negation, by the difference from 0
-pub wrapped_neg : (w : Width) {x r : ℤ} {b s : ℕ} → SFits w x → Fits w s
-    → b ≡ of_z w (to_z w (of_z w x)) → (s + b) % 2 ^ bits w ≡ 0 → r ≡ to_z w s → to_z w (of_z w r) ≡ wrap_s w (neg_ℤ x)
-wrapped_neg w {x} {r} {b} {s} f l q t e = read_wrapped w (neg_ℤ x) r s (wrap_sub w (pos 0) x s l sum ∙ ap (wrap_u w) (+ℤ_idl (neg_ℤ x))) e
-  where
-    sum : (s + wrap_u w x) % 2 ^ bits w ≡ wrap_u w (pos 0)
-    sum = ap (λ (b : ℕ). (s + b) % 2 ^ bits w) (sym (bits_seen w f q)) ∙ t ∙ sym (small w 0 (record { fits = pow_pos (bits w) }))

@@ -1,10 +1,9 @@
 -- Which exact results a type holds, over the width. Assumes nothing.
 use Rattle.std.specs.Prelude.{ℕ, ◌-◌, ◌^◌, Bool, true, false, ℤ, negsuc, nat_lt}
+use Rattle.std.specs.Prelude.{Option, Some, None}
 use Rattle.std.specs.Int.Signed.{mag}
 use Rattle.std.specs.Int.{Width, w64}
 use mir.Val.{bits, hbits}
-use Rattle.integer.specs.declared.Whole.{Whole}
-use Rattle.integer.specs.declared.Whole.TheVariants.{Value, Over}
 
 -- one of two, by a test
 abbrev pub pick : {A : Type 0} → Bool → A → A → A
@@ -24,5 +23,5 @@ abbrev pub in_unsigned : Width → ℕ → Bool
 in_unsigned w n = nat_lt n (2 ^ bits w)
 
 -- AbstractInt: an exact result, or that it is outside the range
-abbrev pub whole_of : ℤ → Whole
-whole_of z = pick (in_signed w64 z) (Value z) Over
+abbrev pub whole_of : ℤ → Option ℤ
+whole_of z = pick (in_signed w64 z) (Some z) None

@@ -7,31 +7,18 @@ ghost use Rattle.std.specs.Prelude.{◌≤◌, length};
 use std::io;
 use std::rt::Files;
 
-// Where the line ends that starts at a place.
-fn line_end(text: &[u8], from: usize) -> usize
-    requires { from ≤ length text.now }
-    ensures { (from ≤ result) × (result ≤ length text.now) }
-{
-    words::end_of(text, from, b'\n')
-}
-
 // The words of a line at the start of a buffer, each ended by a byte 0. Says how many bytes they take.
 fn split(line: &[u8], words: &mut [u8]) -> usize
     ensures { result ≤ length words.new }
 {
-    if line.len() == 0 {
+    if line.is_empty() || words.len() <= line.len() {
         return 0;
     }
-    if words.len() <= line.len() {
-        return 0;
+    for (word, &b) in words.iter_mut().zip(line) {
+        *word = if b == b' ' { 0 } else { b };
     }
-    let mut i = 0;
-    while i < line.len() {
-        words[i] = if line[i] == b' ' { 0 } else { line[i] };
-        i += 1;
-    }
-    words[i] = 0;
-    i + 1
+    words[line.len()] = 0;
+    line.len() + 1
 }
 
 // One command: its line, and what it prints.
@@ -41,16 +28,13 @@ fn command<R: Files + Print>(rt: &R, line: &[u8]) -> io::Result<()> {
     rt.write_all(b"\n")?;
     let mut words = [0u8; 4096];
     let n = split(line, &mut words);
-    command::run(rt, &words[0..n])
+    command::run(rt, &words[..n])
 }
 
 // Each line of a text.
 fn script<R: Files + Print>(rt: &R, text: &[u8]) -> io::Result<()> {
-    let mut at = 0;
-    while at < text.len() {
-        let e = line_end(text, at);
-        command(rt, &text[at..e])?;
-        at = e + 1;
+    for line in text.split_inclusive(|b| *b == b'\n') {
+        command(rt, line.strip_suffix(b"\n").unwrap_or(line))?;
     }
     Ok(())
 }

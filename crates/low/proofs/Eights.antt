@@ -1,14 +1,11 @@
 -- Laws of numbers of 8 bytes each, one after another.
 use mathlib.Core.Path.{◌≡◌, refl, sym, ap, ◌∙◌}
 use mathlib.Core.List.{List, [], ◌∷◌, ◌++◌, append_assoc, append-nil}
-use mathlib.Core.Bool.{Bool, true, false, ◌&&◌, and-eq-true_iff}
 use mathlib.Core.Logic.{⊎_elim}
 use Prim.Native.Nat.{ℕ, zero, suc, ◌+◌, ◌-◌, ◌*◌, ◌%◌, ◌^◌, ◌≤◌, ◌<◌}
 use native.Mathlib.Omega.{arith}
 use native.Mathlib.Numerals.{add-one}
 use native.Mathlib.Nat.{le_antisymm, le_of_suc-le-suc, not-suc-le-zero}
-use lib.Dec.{ltb}
-use borrow.Author.Tests.{ltb-true, lt-ltb}
 use Rattle.integer.proofs.Order.{le_or_lt}
 use lib.ListN.{length, take, drop, get_or, set, replicate, length-append}
 use lib.Seq.{take_at, drop_at, set_at, get_or-drop}
@@ -115,13 +112,6 @@ filled_rest xs b a i h l e =
 
 pub filled_end : (xs s : List ℕ) (i : ℕ) → i ≤ 16 → (i < 16 → length s ≤ 8 * i) → xs ≡ filled i s 0 → xs ≡ numbers 16 s 0
 filled_end xs s i h l e = ⊎_elim (λ (k : 16 ≤ i). filled_all xs s 0 i h k e) (λ (k : i < 16). filled_rest xs s 0 i h (omega (arith, l k)) e) (le_or_lt 16 i)
-
--- the loop goes on only where a number is left to read, and ends before the sixteenth only where its other test fails
-pub reading_on : (i : ℕ) (b : Bool) → (ltb i 16 && b) ≡ true → i < 16
-reading_on i b e = ltb-true i 16 ((and-eq-true_iff (ltb i 16) b).0 e).0
-
-pub reading_stop : (i : ℕ) (b : Bool) → (ltb i 16 && b) ≡ false → i < 16 → b ≡ false
-reading_stop i b e h = rw (lt-ltb i 16 h) at e
 
 -- of at most eight bytes there is one number, and fifteen zeros
 pub numbers_one : (s : List ℕ) → length s ≤ 8 → whole (part s 0 8) ∷ replicate 15 0 ≡ numbers 16 s 0

@@ -1,11 +1,13 @@
 -- Laws of a part of a list and of a list with a part replaced.
 use mathlib.Core.Path.{◌≡◌, refl, sym, ap, ◌∙◌}
 use mathlib.Core.List.{List, [], ◌∷◌, ◌++◌, append_assoc, append-nil}
-use Prim.Native.Nat.{ℕ, zero, suc, ◌+◌, ◌-◌, ◌≤◌, ◌<◌}
+use mathlib.Core.Logic.{⊎_elim}
+use Prim.Native.Nat.{ℕ, zero, suc, ◌+◌, ◌-◌, min, ◌≤◌, ◌<◌}
 use native.Mathlib.Omega.{arith}
 use native.Mathlib.Nat.{add-zero}
 use native.Mathlib.Numerals.{add-one, add-two, add-three}
 use lib.ListN.{length, take, drop, get_or, set, replicate, length-append, length-take, length-drop, take-append-drop, drop_of_length-le, get_or-append}
+use Rattle.integer.proofs.Order.{le_or_lt}
 use Rattle.low.specs.Bytes.{part, patch}
 use lib.Seq.{take_all, get_or-take, get_or-drop, ext_get_or, get_or-append-add, drop_at, take_at, take-append_seam, drop-append-add, drop-drop, sets-eq}
 
@@ -26,15 +28,28 @@ pub part_past : (l : List ℕ) (a n : ℕ) → length l ≤ a → part l a n ≡
 unfolding part
 part_past l a n h = rw (drop_of_length-le l h) (take_all n [] (omega arith))
 
-pub end_empty : (l : List ℕ) → take (length l - length l) (drop (length l) l) ≡ []
-end_empty l =
-    let h : length l ≤ length l = omega arith in
-    rw (drop_of_length-le l h) (take_all {A = ℕ} (length l - length l) [] (omega arith))
-
 -- what is left, where no more is there
 pub part_rest : (l : List ℕ) (a n : ℕ) → length l - a ≤ n → take (length l - a) (drop a l) ≡ part l a n
 unfolding part
 part_rest l a n h = take_all (length l - a) (drop a l) (omega (arith, length-drop a l)) ∙ sym (take_all n (drop a l) (omega (arith, length-drop a l)))
+
+-- as the code goes: of what is left from the place on, or from the end where the place is past it, the first n bytes or all
+pub part_min : (l : List ℕ) (a n i k : ℕ) → i ≡ min a (length l) → k ≡ min n (length (take (length l - i) (drop i l))) → take k (take (length l - i) (drop i l)) ≡ part l a n
+unfolding part
+part_min l a n i k e q =
+    let all : take (length l - i) (drop i l) ≡ drop i l = take_all (length l - i) (drop i l) (omega (arith, length-drop i l)) in
+    let m : k ≡ min n (length l - i) = q ∙ ap (min n) (ap length all ∙ length-drop i l) in
+    ap (take k) all
+    ∙ ⊎_elim
+    (λ (h : length l ≤ a). let z : k ≡ 0 = omega arith in rw z (sym (part_past l a n h)))
+    (λ (h : a < length l).
+    let f : i ≡ a = omega arith in
+    ap (λ (j : ℕ). take k (drop j l)) f
+    ∙ ⊎_elim
+    (λ (g : n ≤ length l - a). let z : k ≡ n = omega arith in ap (λ (j : ℕ). take j (drop a l)) z)
+    (λ (g : length l - a < n). let z : k ≡ length l - a = omega arith in ap (λ (j : ℕ). take j (drop a l)) z ∙ part_rest l a n (omega arith))
+    (le_or_lt n (length l - a)))
+    (le_or_lt (length l) a)
 
 -- a part of a part
 pub part_part : (l : List ℕ) (a n b m : ℕ) → b + m ≤ n → part (part l a n) b m ≡ part l (a + b) m
@@ -94,10 +109,6 @@ module _ (l : List ℕ) (a : ℕ) (b : List ℕ) (fits : a + length b ≤ length
       at_part (patch l a b) c n i k ∙ at_patch_after (c + i) (omega arith) ∙ sym (at_part l c n i k))
 
 -- stores one after another are a patch
-pub stores2 : (l : List ℕ) (i v w : ℕ) → i + 2 ≤ length l → set (set l i v) (i + 1) w ≡ patch l i (v ∷ w ∷ [])
-unfolding patch
-stores2 l i v w h = rw add-one (sets-eq (v ∷ w ∷ []) l i h)
-
 pub stores4 : (l : List ℕ) (i v w x y : ℕ) → i + 4 ≤ length l → set (set (set (set l i v) (i + 1) w) (i + 2) x) (i + 3) y ≡ patch l i (v ∷ w ∷ x ∷ y ∷ [])
 unfolding patch
 stores4 l i v w x y h = rw (add-one, add-two, add-three) (sets-eq (v ∷ w ∷ x ∷ y ∷ []) l i h)

@@ -3,17 +3,20 @@ use mathlib.Core.Path.{◌≡◌, refl, sym, ap}
 use mathlib.Core.Bool.{Bool, true, false}
 use Prim.Native.Nat.{ℕ, ◌+◌}
 use native.Mathlib.Omega.{arith}
-use Rattle.low.specs.declared.Seen.TheVariants.{Good, Refused}
+use Rattle.std.specs.Prelude.{Ok, Err}
+use Rattle.low.specs.declared.Refused.{Refused}
 use Rattle.low.specs.Read.{Read, found, refused, must, then_read, read_as, placed_from, seen_of}
 
 -- ---- from the code's answer to the definition's
-pub was_read : {A : Type 0} (x : Read A) (n : ℕ) → Good n ≡ seen_of x → (a : A) × (x ≡ found a n)
+pub was_read : {A : Type 0} (x : Read A) (n : ℕ) → Ok n ≡ seen_of x → (a : A) × (x ≡ found a n)
 was_read (found a m) n e = (a, let h : m ≡ n = cc in ap (found a) h)
 was_read (refused k p) n e = absurd (let z : ◌≡◌ {A = ℕ} 0 1 = cc in omega arith)
 
-pub was_refused : {A : Type 0} (x : Read A) (k p : ℕ) → Refused k p ≡ seen_of x → x ≡ refused k p
-was_refused (found a m) k p e = absurd (let z : ◌≡◌ {A = ℕ} 0 1 = cc in omega arith)
-was_refused (refused j q) k p e = let h : j ≡ k = cc in let h' : q ≡ p = cc in cc
+pub was_refused : {A : Type 0} (x : Read A) (r : Refused) → Err r ≡ seen_of x → x ≡ refused r.number r.place
+was_refused (found a m) r e = absurd (let z : ◌≡◌ {A = ℕ} 0 1 = cc in omega arith)
+was_refused (refused j q) r e =
+    let h : r ≡ record { number = j; place = q } = cc in
+    rw h
 
 pub seen_as : {A B : Type 0} (f : A → B) (x : Read A) → seen_of (read_as f x) ≡ seen_of x
 unfolding read_as

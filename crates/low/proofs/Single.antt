@@ -7,6 +7,7 @@ use denote.Ref.{Bor}
 use denote.Triple.Clauses.{AtExit}
 use borrow.Fn.Kinds.{Dens, res_t, ended_of}
 use Rattle.integer.proofs.Single.{OneResult}
+use Rattle.std.proofs.Common.{Fits, w64}
 use Rattle.low.specs.Part.{PartOf}
 use Rattle.low.proofs.fields.byte.Kinds as byte_kinds
 use Rattle.low.proofs.fields.byte.Reads as byte_reads
@@ -20,20 +21,12 @@ use Rattle.low.proofs.fields.number.Kinds as number_kinds
 use Rattle.low.proofs.fields.number.Reads as number_reads
 use Rattle.low.proofs.fields.numbers.Kinds as numbers_kinds
 use Rattle.low.proofs.fields.numbers.Reads as numbers_reads
-use Rattle.low.proofs.words.get16.Kinds as get16_kinds
-use Rattle.low.proofs.words.get16.Reads as get16_reads
-use Rattle.low.proofs.words.get32.Kinds as get32_kinds
-use Rattle.low.proofs.words.get32.Reads as get32_reads
-use Rattle.low.proofs.words.get64.Kinds as get64_kinds
-use Rattle.low.proofs.words.get64.Reads as get64_reads
+use Rattle.low.proofs.words.get.Kinds as get_kinds
+use Rattle.low.proofs.words.get.Reads as get_reads
 use Rattle.low.proofs.words.get_words.Kinds as get_words_kinds
 use Rattle.low.proofs.words.get_words.Reads as get_words_reads
-use Rattle.low.proofs.words.put16.Kinds as put16_kinds
-use Rattle.low.proofs.words.put16.Reads as put16_reads
-use Rattle.low.proofs.words.put32.Kinds as put32_kinds
-use Rattle.low.proofs.words.put32.Reads as put32_reads
-use Rattle.low.proofs.words.put64.Kinds as put64_kinds
-use Rattle.low.proofs.words.put64.Reads as put64_reads
+use Rattle.low.proofs.words.put.Kinds as put_kinds
+use Rattle.low.proofs.words.put.Reads as put_reads
 use Rattle.low.proofs.words.put_words.Kinds as put_words_kinds
 use Rattle.low.proofs.words.put_words.Reads as put_words_reads
 
@@ -60,29 +53,15 @@ number_one κs a x y s t p q = p ∙ sym q
 pub numbers_one : OneResult 1 numbers_kinds.ps numbers_kinds.r numbers_reads.Post
 numbers_one κs a x y s t p q = p ∙ sym q
 
-pub get16_one : OneResult 1 get16_kinds.ps get16_kinds.r get16_reads.Post
-get16_one κs a x y s t p q = p.0 ∙ sym q.0
-
-pub get32_one : OneResult 1 get32_kinds.ps get32_kinds.r get32_reads.Post
-get32_one κs a x y s t p q = p.0 ∙ sym q.0
-
-pub get64_one : OneResult 1 get64_kinds.ps get64_kinds.r get64_reads.Post
-get64_one κs a x y s t p q = p ∙ sym q
+pub get_one : (n : ℕ) (f : Fits w64 n) → OneResult 2 (get_kinds.ps n f) (get_kinds.r n f) (get_reads.Post n f)
+get_one n f κs a x y s t p q = p.0 ∙ sym q.0
 
 pub get_words_one : OneResult 1 get_words_kinds.ps get_words_kinds.r get_words_reads.Post
 get_words_one κs a x y s t p q = p ∙ sym q
 
-pub put16_one : (κs : Lfts 1) (a : Dens κs put16_kinds.ps) (x y : (res_t put16_kinds.r κs).Denot) (s t : AtExit (ended_of 1 put16_kinds.ps put16_kinds.r) κs)
-    → put16_reads.Post κs a x s → put16_reads.Post κs a y t → s.0.now ≡ t.0.now
-put16_one κs a x y s t p q = p ∙ sym q
-
-pub put32_one : (κs : Lfts 1) (a : Dens κs put32_kinds.ps) (x y : (res_t put32_kinds.r κs).Denot) (s t : AtExit (ended_of 1 put32_kinds.ps put32_kinds.r) κs)
-    → put32_reads.Post κs a x s → put32_reads.Post κs a y t → s.0.now ≡ t.0.now
-put32_one κs a x y s t p q = p ∙ sym q
-
-pub put64_one : (κs : Lfts 1) (a : Dens κs put64_kinds.ps) (x y : (res_t put64_kinds.r κs).Denot) (s t : AtExit (ended_of 1 put64_kinds.ps put64_kinds.r) κs)
-    → put64_reads.Post κs a x s → put64_reads.Post κs a y t → s.0.now ≡ t.0.now
-put64_one κs a x y s t p q = p ∙ sym q
+pub put_one : (n : ℕ) (f : Fits w64 n) (κs : Lfts 2) (a : Dens κs (put_kinds.ps n f)) (x y : (res_t (put_kinds.r n f) κs).Denot) (s t : AtExit (ended_of 2 (put_kinds.ps n f) (put_kinds.r n f)) κs)
+    → put_reads.Post n f κs a x s → put_reads.Post n f κs a y t → s.0.now ≡ t.0.now
+put_one n f κs a x y s t p q = p ∙ sym q
 
 pub put_words_one : (κs : Lfts 1) (a : Dens κs put_words_kinds.ps) (x y : (res_t put_words_kinds.r κs).Denot) (s t : AtExit (ended_of 1 put_words_kinds.ps put_words_kinds.r) κs)
     → put_words_reads.Post κs a x s → put_words_reads.Post κs a y t → s.0.now ≡ t.0.now

@@ -1,7 +1,6 @@
 -- What reading bytes from a place on answers: a thing and the place after it, or a refusal's number and its byte place.
-use Rattle.std.specs.Prelude.{ℕ, ◌+◌, Bool, true, false, List, length, leb}
-use Rattle.low.specs.declared.Seen.{Seen}
-use Rattle.low.specs.declared.Seen.TheVariants as seen
+use Rattle.std.specs.Prelude.{ℕ, ◌+◌, Bool, true, false, List, length, leb, Result, Ok, Err}
+use Rattle.low.specs.declared.Refused.{Refused}
 
 pub data Read (A : Type 0) : Type 0 where
   found : A → ℕ → Read A
@@ -31,7 +30,11 @@ placed_from start (refused k p) = refused k (start + p)
 abbrev pub there : List ℕ → ℕ → ℕ → Bool
 there b at n = leb (at + n) (length b)
 
+-- a refusal, as the code answers it
+abbrev pub refusal : {A : Type 0} → ℕ → ℕ → Result A Refused
+refusal k p = Err (record { number = k; place = p })
+
 -- an answer without the thing that was read
-abbrev pub seen_of : {A : Type 0} → Read A → Seen
-seen_of (found a n) = seen.Good n
-seen_of (refused k p) = seen.Refused k p
+abbrev pub seen_of : {A : Type 0} → Read A → Result ℕ Refused
+seen_of (found a n) = Ok n
+seen_of (refused k p) = refusal k p

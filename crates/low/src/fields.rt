@@ -3,62 +3,52 @@ ghost use Rattle.std.specs.Prelude.{◌≡◌, ◌*◌, ◌-◌, ◌<◌, length
 ghost use Rattle.low.specs.Bytes.{whole, part, numbers};
 ghost use Rattle.low.specs.Part.{PartOf};
 
-use crate::words::{get64, wide};
+use crate::words::get;
 
 // How many bytes are left from a place on.
 pub fn remaining(s: &[u8], at: usize) -> usize
     ensures { result ≡ length s.now - at }
 {
-    if s.len() < at {
-        return 0;
-    }
-    s.len() - at
+    s.len().saturating_sub(at)
 }
 
 // The byte at a place.
 pub fn byte(s: &[u8], at: usize) -> u8
     ensures { result ≡ get_or s.now at 0 }
 {
-    if at < s.len() { s[at] } else { 0 }
+    s.get(at).copied().unwrap_or(0)
 }
 
 // The n bytes at a place, or those of them that are there, as a part of s.
 pub fn part(s: &[u8], at: usize, n: usize) -> &[u8]
     ensures { PartOf s.entry at n result }
 {
-    if s.len() <= at {
-        let end = s.len();
-        return &s[end..];
-    }
-    if s.len() - at <= n {
-        return &s[at..];
-    }
-    let e = at + n;
-    &s[at..e]
+    let rest = &s[at.min(s.len())..];
+    &rest[..n.min(rest.len())]
 }
 
 // The number in the four bytes at a place, low byte first.
 pub fn word(s: &[u8], at: usize) -> u32
     ensures { result ≡ whole (part s.now at 4) }
 {
-    four(part(s, at, 4), 0) as u32
-}
-
-// The number in the first four bytes, or in the four after those.
-fn four(s: &[u8], at: usize) -> u64
-    requires { at < 5 }
-    ensures { (result ≡ whole (part s.now at 4)) × (result < 4294967296) }
-{
-    wide(byte(s, at))
-        + 256
-            * (wide(byte(s, at + 1)) + 256 * (wide(byte(s, at + 2)) + 256 * wide(byte(s, at + 3))))
+    let p = part(s, at, 4);
+    u32::from_le_bytes([byte(p, 0), byte(p, 1), byte(p, 2), byte(p, 3)])
 }
 
 // The number in the first eight bytes, low byte first.
 pub fn number(s: &[u8]) -> u64
     ensures { result ≡ whole (part s.now 0 8) }
 {
-    four(s, 0) + 0x1_0000_0000 * four(s, 4)
+    u64::from_le_bytes([
+        byte(s, 0),
+        byte(s, 1),
+        byte(s, 2),
+        byte(s, 3),
+        byte(s, 4),
+        byte(s, 5),
+        byte(s, 6),
+        byte(s, 7),
+    ])
 }
 
 // Number i of those that follow one another in eight bytes each.
@@ -68,7 +58,7 @@ fn nth(s: &[u8], i: usize) -> u64
 {
     let at = 8 * i;
     if at + 8 <= s.len() {
-        return get64(s, at);
+        return get::<8>(s, at);
     }
     number(part(s, at, 8))
 }
@@ -78,10 +68,8 @@ pub fn numbers(s: &[u8]) -> [u64; 16]
     ensures { result ≡ numbers 16 s.now 0 }
 {
     let mut xs = [0u64; 16];
-    let mut i = 0;
-    while (i < 16) & (8 * i < s.len()) {
+    for i in 0..s.len().div_ceil(8).min(16) {
         xs[i] = nth(s, i);
-        i += 1;
     }
     xs
 }

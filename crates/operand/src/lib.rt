@@ -3,7 +3,7 @@
 
 ghost use Rattle.std.specs.Prelude.{◌≡◌, ◌≤◌};
 ghost use Rattle.value.specs.Pattern.{proper_of};
-ghost use Rattle.operand.specs.Operand.{shape_ok, in_shape, is_scalar, is_vector, is_matrix, component_count, Small, every, component_at, operand_formed, a_scalar};
+ghost use Rattle.operand.specs.Operand.{shape_ok, in_shape, shape_of, is_scalar, is_vector, is_matrix, component_count, Small, every, component_at, operand_formed, a_scalar};
 ghost use Rattle.low.specs.Bytes.{up_to};
 ghost use Rattle.operand.specs.Outcome.{refused_with, refused_as, value_of};
 
@@ -11,7 +11,7 @@ use value::Refusal;
 
 // A scalar, vector or matrix: its components, column by column, and its type, columns and rows. The components stand first, at
 // an even place, where a copy of them is cheapest.
-#[derive(Clone, Copy)]
+#[derive(Clone, Copy, Debug, PartialEq, Eq)]
 pub struct Instance {
     pub comps: [u64; 16],
     pub ty: u8,
@@ -20,7 +20,8 @@ pub struct Instance {
 }
 
 // An answer: status 0 and a value, or a refusal's number and detail beside zeros; a shift's refusal beside its left operand.
-#[derive(Clone, Copy)]
+// No `Result`: it is what a slot holds, and a shift's refusal has a value beside it.
+#[derive(Clone, Copy, Debug, PartialEq, Eq)]
 pub struct Outcome {
     pub value: Instance,
     pub detail: u32,
@@ -28,10 +29,22 @@ pub struct Outcome {
 }
 
 // Columns and rows of an operand.
-#[derive(Clone, Copy)]
+#[derive(Clone, Copy, Debug, PartialEq, Eq)]
 pub struct Shape {
     pub cols: u8,
     pub rows: u8,
+}
+
+impl Instance {
+    // Its columns and rows.
+    pub fn shape(&self) -> Shape
+        ensures { result ≡ shape_of self.now }
+    {
+        Shape {
+            cols: self.cols,
+            rows: self.rows,
+        }
+    }
 }
 
 // A refusal as an answer.
@@ -128,7 +141,8 @@ pub fn count(s: Shape) -> usize
     (s.cols as usize) * (s.rows as usize)
 }
 
-// Whether the first n components are patterns of the type, whose row is asked for once.
+// Whether the first n components are patterns of the type, whose row is asked for once. Each of the few is asked, without a
+// branch, so this is no `all`, which ends at the first that is none.
 fn components_ok(ty: u8, xs: &[u64; 16], n: usize) -> bool
     requires { n ≤ 16 }
     ensures { result ≡ every (proper_of ty) (up_to (component_at xs.now) n) }
@@ -136,10 +150,8 @@ fn components_ok(ty: u8, xs: &[u64; 16], n: usize) -> bool
     let known = types::known(ty);
     let most = types::most(ty);
     let mut ok = true;
-    let mut i = 0;
-    while i < n {
-        ok = ok & (known & (xs[i] <= most));
-        i += 1;
+    for i in 0..n {
+        ok &= known & (xs[i] <= most);
     }
     ok
 }

@@ -1,4 +1,5 @@
 // The operators under the Rust's names, on scalars, vectors and matrices. One whose answer depends on no stage takes none.
+// Each is a function of its own, though all are one by a code: the names are the Rust's, and callers of the Rust look for them.
 #![tactic(auto)]
 
 ghost use Rattle.std.specs.Prelude.{◌≡◌};

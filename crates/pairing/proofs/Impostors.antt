@@ -3,11 +3,11 @@ use mathlib.Core.Path.{◌≡◌, refl}
 use mathlib.Core.Bool.{true, false}
 use Prim.Native.Nat.{ℕ}
 use lib.Dec.{eqb}
+use Rattle.std.specs.Prelude.{Some, None, Ok, Err}
 use Rattle.types.specs.Types.{common_type}
 use Rattle.value.specs.declared.ShaderStage.TheVariants.{Const, Override, Exec}
 use Rattle.operand.specs.declared.Shape.{Shape}
 use Rattle.pairing.specs.Pairing.{op_known, unary_known, stage_code, stage_known, call_fault, pair_ok, targets_of, is_product, fits_of, misfit_of, result_shape}
-use Rattle.pairing.specs.declared.Targets.TheVariants as T
 
 abbrev by : ℕ → ℕ → Shape
 by c r = record { cols = c; rows = r }
@@ -21,7 +21,7 @@ pub stages : (eqb (stage_code Exec) (stage_code Override) ≡ false) × (eqb (st
 stages = (refl, refl)
 
 -- the stage judged before the operator, the operands before the stage
-pub faults : (call_fault false false false ≡ 25) × (call_fault true false false ≡ 23) × (call_fault true true false ≡ 26) × (call_fault true true true ≡ 0)
+pub faults : (call_fault false false false ≡ Err 25) × (call_fault true false false ≡ Err 23) × (call_fault true true false ≡ Err 26) × (call_fault true true true ≡ Ok tt)
 faults = (refl, refl, refl, refl)
 
 -- `&&` of vectors; a comparison of scalar and vector; a quotient of matrices; every pair refused
@@ -29,7 +29,7 @@ pub no_pair : (pair_ok 2 (by 1 2) (by 1 2) ≡ false) × (pair_ok 8 (by 1 1) (by
 no_pair = (refl, refl, refl, refl)
 
 -- a count converted to the left operand's type, or of I32; the right's type for AbstractFloat and AbstractInt
-pub other_targets : (targets_of 17 3 1 ≡ T.Types 3 4) × (targets_of 17 3 3 ≡ T.Nothing) × (targets_of 3 2 1 ≡ T.Types 2 2) × (targets_of 3 7 7 ≡ T.Nothing)
+pub other_targets : (targets_of 17 3 1 ≡ Some (3, 4)) × (targets_of 17 3 3 ≡ None) × (targets_of 3 2 1 ≡ Some (2, 2)) × (targets_of 3 7 7 ≡ None)
 unfolding targets_of common_type
 other_targets = (refl, refl, refl, refl)
 

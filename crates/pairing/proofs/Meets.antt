@@ -6,8 +6,7 @@ use Prim.Native.Nat.{ℕ, ◌≤◌, ◌<◌}
 use native.Mathlib.Omega.{arith}
 use lib.Dec.{eqb, leb}
 use borrow.Author.Tests.{leb-true, leb-false, eqb-true, ne_eqb, le-leb, lt-leb}
-use Rattle.types.specs.declared.CommonType.{CommonType}
-use Rattle.types.specs.declared.CommonType.TheVariants.{Code, Nothing}
+use Rattle.std.specs.Prelude.{Option, Some, None}
 use Rattle.types.specs.Types.{known_of, float_of, goes_to, common_type}
 use Rattle.types.proofs.Goes.{goes_known, float_goes}
 use Rattle.value.specs.Pattern.{pick}
@@ -15,28 +14,27 @@ use Rattle.operand.specs.Operand.{is_matrix}
 use Rattle.operand.specs.declared.Shape.{Shape}
 use Rattle.low.proofs.Tests.{both, one_of}
 use Rattle.pairing.specs.Pairing.{pair_ok, to_both, targets_of}
-use Rattle.pairing.specs.declared.Targets.TheVariants as T
 
 -- ---- the types that the operands convert to, as the tests of the code leave them
 module _ (op x y : ℕ) (h : 17 ≤ op) (k g : Bool) (ek : k ≡ known_of x) (eg : g ≡ goes_to y 4) where
-  pub shift_targets : (k && (eqb y 4 || g)) ≡ true → T.Types x 4 ≡ targets_of op x y
+  pub shift_targets : (k && (eqb y 4 || g)) ≡ true → Some (x, 4) ≡ targets_of op x y
   unfolding targets_of
   shift_targets q = rw (le-leb 17 op h, ← ek, ← eg, q)
 
-  pub shift_none : (k && (eqb y 4 || g)) ≡ false → T.Nothing ≡ targets_of op x y
+  pub shift_none : (k && (eqb y 4 || g)) ≡ false → None ≡ targets_of op x y
   unfolding targets_of
   shift_none q = rw (le-leb 17 op h, ← ek, ← eg, q)
 
 module _ (op x y : ℕ) (h : op < 17) where
-  pub equal_types : (k : Bool) → k ≡ known_of x → (k && eqb x y) ≡ true → T.Types x x ≡ targets_of op x y
+  pub equal_types : (k : Bool) → k ≡ known_of x → (k && eqb x y) ≡ true → Some (x, x) ≡ targets_of op x y
   unfolding targets_of common_type
   equal_types k e q = rw (lt-leb 17 op h, ← e, q)
 
-  pub common_none : (c : CommonType) → c ≡ common_type x y → c ≡ Nothing → T.Nothing ≡ targets_of op x y
+  pub common_none : (c : Option ℕ) → c ≡ common_type x y → c ≡ None → None ≡ targets_of op x y
   unfolding targets_of
   common_none c e q = rw (lt-leb 17 op h, ← e, q)
 
-  pub common_code : (c : CommonType) → c ≡ common_type x y → (t : ℕ) → c ≡ Code t → T.Types t t ≡ targets_of op x y
+  pub common_code : (c : Option ℕ) → c ≡ common_type x y → (t : ℕ) → c ≡ Some t → Some (t, t) ≡ targets_of op x y
   unfolding targets_of
   common_code c e t q = rw (lt-leb 17 op h, ← e, q)
 
@@ -47,22 +45,19 @@ pub data Meets (op lt rt : ℕ) : ℕ → ℕ → Type 0 where
   rightward : op < 17 → goes_to lt rt ≡ true → Meets op lt rt rt rt
 
 -- two types that the operands convert to are those of the constructor
-same_types : {op lt rt u v x y : ℕ} → T.Types u v ≡ T.Types x y → Meets op lt rt u v → Meets op lt rt x y
-same_types {u = u} {v = v} {x = x} {y = y} e m =
-    let p : u ≡ x = cc in
-    let q : v ≡ y = cc in
-    rw (← p, ← q) m
+same_types : {op lt rt : ℕ} {p q : ℕ × ℕ} → Some p ≡ Some q → Meets op lt rt p.0 p.1 → Meets op lt rt q.0 q.1
+same_types {p = p} {q} e m = let k : p ≡ q = cc in rw (← k) m
 
-none : {P : Type 0} {x y : ℕ} → T.Nothing ≡ T.Types x y → P
+none : {P : Type 0} {x : ℕ × ℕ} → None ≡ Some x → P
 none e = let z : ◌≡◌ {A = ℕ} 0 1 = cc in absurd (omega arith)
 
-pub meets : (op lt rt x y : ℕ) → targets_of op lt rt ≡ T.Types x y → Meets op lt rt x y
+pub meets : (op lt rt x y : ℕ) → targets_of op lt rt ≡ Some (x, y) → Meets op lt rt x y
 unfolding targets_of common_type
 meets op lt rt x y e =
     go (leb 17 op) (known_of lt && (eqb rt 4 || goes_to rt 4)) ((known_of lt && eqb lt rt) || goes_to rt lt) (goes_to lt rt) refl refl refl refl e
   where
     go : (a b c d : Bool) → leb 17 op ≡ a → (known_of lt && (eqb rt 4 || goes_to rt 4)) ≡ b → ((known_of lt && eqb lt rt) || goes_to rt lt) ≡ c → goes_to lt rt ≡ d
-        → pick a (pick b (T.Types lt 4) T.Nothing) (to_both (pick c (Code lt) (pick d (Code rt) Nothing))) ≡ T.Types x y → Meets op lt rt x y
+        → pick a (pick b (Some (lt, 4)) None) (to_both (pick c (Some lt) (pick d (Some rt) None))) ≡ Some (x, y) → Meets op lt rt x y
     go true true c d p k q r f = same_types f (shift (leb-true _ _ p) (both (known_of lt) _ k).0)
     go true false c d p k q r f = none f
     go false b true d p k q r f = same_types f (leftward (leb-false _ _ p) (one_of (known_of lt && eqb lt rt) _ q))

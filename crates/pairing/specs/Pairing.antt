@@ -1,16 +1,12 @@
 -- Which shapes and which types an operator takes. Assumes nothing.
-use Rattle.std.specs.Prelude.{ℕ, Bool, not, ◌&&◌, ◌||◌, eqb, leb}
+use Rattle.std.specs.Prelude.{ℕ, Option, Some, None, Result, Ok, Err, ⊤, Bool, not, ◌&&◌, ◌||◌, eqb, leb}
 use Rattle.value.specs.declared.ShaderStage.{ShaderStage}
 use Rattle.value.specs.declared.ShaderStage.TheVariants.{Const, Override, Exec}
-use Rattle.types.specs.declared.CommonType.{CommonType}
-use Rattle.types.specs.declared.CommonType.TheVariants.{Code, Nothing}
 use Rattle.types.specs.Types.{known_of, goes_to, common_type}
 use Rattle.value.specs.Pattern.{pick}
 use Rattle.value.specs.Refusals as No
 use Rattle.operand.specs.Operand.{is_scalar, is_vector, is_matrix}
 use Rattle.operand.specs.declared.Shape.{Shape}
-use Rattle.pairing.specs.declared.Targets.{Targets}
-use Rattle.pairing.specs.declared.Targets.TheVariants as T
 
 -- 1 `||`, 2 `&&`, 3 to 7 `+ - * / %`, 8 to 13 `== != < <= > >=`, 14 to 16 `| & ^`, 17 `<<`, 18 `>>`
 abbrev pub op_known : ℕ → Bool
@@ -42,13 +38,13 @@ pair_ok op a b =
     || (eqb op 5 && (is_matrix a || is_matrix b))
 
 -- a common type for both operands
-abbrev pub to_both : CommonType → Targets
-to_both (Code t) = T.Types t t
-to_both Nothing = T.Nothing
+abbrev pub to_both : Option ℕ → Option (ℕ × ℕ)
+to_both (Some t) = Some (t, t)
+to_both None = None
 
 -- the types that the operands convert to: the common type; for a shift the left's own, and U32 for a count of U32 or AbstractInt
-unfoldable pub targets_of : ℕ → ℕ → ℕ → Targets
-targets_of op x y = pick (leb 17 op) (pick (known_of x && (eqb y 4 || goes_to y 4)) (T.Types x 4) T.Nothing) (to_both (common_type x y))
+unfoldable pub targets_of : ℕ → ℕ → ℕ → Option (ℕ × ℕ)
+targets_of op x y = pick (leb 17 op) (pick (known_of x && (eqb y 4 || goes_to y 4)) (Some (x, 4)) None) (to_both (common_type x y))
 
 -- matrix with matrix, matrix times vector, vector times matrix: products that sum
 abbrev pub is_product : ℕ → Shape → Shape → Bool
@@ -74,6 +70,6 @@ misfit_of op a b = pick (is_product op a b) No.Binary No.CompwiseBinary
 abbrev pub result_shape : Shape → Shape → Shape
 result_shape a b = pick (is_scalar a) b a
 
--- BadNode for an unknown operator, then BadStage for an unknown stage, then BadValue for a malformed operand; 0 where all three hold
-abbrev pub call_fault : Bool → Bool → Bool → ℕ
-call_fault known staged formed = pick known (pick staged (pick formed 0 No.BadValue) No.BadStage) No.BadNode
+-- BadNode for an unknown operator, then BadStage for an unknown stage, then BadValue for a malformed operand; Ok where all three hold
+abbrev pub call_fault : Bool → Bool → Bool → Result ⊤ ℕ
+call_fault known staged formed = pick known (pick staged (pick formed (Ok tt) (Err No.BadValue)) (Err No.BadStage)) (Err No.BadNode)

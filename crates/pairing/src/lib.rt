@@ -5,15 +5,7 @@ ghost use Rattle.std.specs.Prelude.{◌≡◌};
 ghost use Rattle.pairing.specs.Pairing.{op_known, unary_known, stage_code, stage_known, call_fault, pair_ok, targets_of, is_product, inner_ok, same_shape, fits_of, misfit_of, result_shape};
 
 use operand::{Shape, is_matrix, is_scalar, is_vector};
-use types::CommonType;
 use value::{ShaderStage, refusals};
-
-// The types that the operands convert to.
-#[derive(Clone, Copy)]
-pub enum Targets {
-    Types(u8, u8),
-    Nothing,
-}
 
 // Whether a code names a binary operator.
 pub fn op_known(op: u8) -> bool
@@ -47,21 +39,20 @@ pub fn stage_code(stage: ShaderStage) -> u8
     }
 }
 
-// The number that refuses a call before its operator is asked: an unknown operator, then an unknown stage, then a malformed
-// operand; 0 where nothing does.
-pub fn call_fault(known: bool, stage: u8, formed: bool) -> u8
+// The number that refuses a call before its operator is asked: an unknown operator, then an unknown stage, then a malformed operand.
+pub fn call_fault(known: bool, stage: u8, formed: bool) -> Result<(), u8>
     ensures { result ≡ call_fault known (stage_known stage) formed }
 {
     if !known {
-        return refusals::BAD_NODE;
+        return Err(refusals::BAD_NODE);
     }
     if !stage_known(stage) {
-        return refusals::BAD_STAGE;
+        return Err(refusals::BAD_STAGE);
     }
     if !formed {
-        return refusals::BAD_VALUE;
+        return Err(refusals::BAD_VALUE);
     }
-    0
+    Ok(())
 }
 
 // Whether an operator takes this pair of shapes, sizes left aside.
@@ -83,23 +74,21 @@ pub fn pair_ok(op: u8, a: Shape, b: Shape) -> bool
         | (op == 5) & (m | n)
 }
 
-// The common type of two operands, for both; a shift leaves the left as it is and takes a U32 count. Equal types are told first.
-pub fn targets_of(op: u8, x: u8, y: u8) -> Targets
+// The types that two operands convert to: the common type, for both; a shift leaves the left as it is and takes a U32 count. Equal types are told first.
+pub fn targets_of(op: u8, x: u8, y: u8) -> Option<(u8, u8)>
     ensures { result ≡ targets_of op x y }
 {
     if 17 <= op {
         if types::known(x) & ((y == 4) | types::goes_to(y, 4)) {
-            return Targets::Types(x, 4);
+            return Some((x, 4));
         }
-        return Targets::Nothing;
+        return None;
     }
     if types::known(x) & (x == y) {
-        return Targets::Types(x, x);
+        return Some((x, x));
     }
-    let CommonType::Code(t) = types::common(x, y) else {
-        return Targets::Nothing;
-    };
-    Targets::Types(t, t)
+    let t = types::common(x, y)?;
+    Some((t, t))
 }
 
 // Whether a multiplication is a sum of products.

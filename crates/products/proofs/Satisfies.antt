@@ -2,18 +2,19 @@
 use mathlib.Core.List.{List}
 use Prim.Native.Nat.{ℕ, zero, suc, ◌-◌, ◌≤◌}
 use native.Mathlib.Omega.{arith}
+use Rattle.std.specs.Prelude.{Ok, Err}
 use Rattle.value.specs.declared.Refusal.{Refusal}
 use Rattle.scalar.proofs.Keeps.{Refuses}
 use Rattle.operand.proofs.Answers.{Fine, Sixteen}
-use Rattle.components.specs.Components.{Out, got, stop, each_component, lane, binary_at}
+use Rattle.components.specs.Components.{Out, each_component, lane, binary_at}
 use Rattle.components.proofs.Satisfies.{Satisfies, each_held, step_held, pair_held}
 use Rattle.products.specs.Products.{plus_next, sum_to, plus_one, dot_of, cell_at, plus_all, times_row, vector_matrix}
 
 module _ {A : Type 0} (P : A → Type 0) (R : Refusal → Type 0) (add : A → A → Out A) (sum : (s p : A) → P s → P p → Satisfies P R (add s p)) where
   next_held : (s p : Out A) → Satisfies P R s → Satisfies P R p → Satisfies P R (plus_next add s p)
-  next_held (got s) (got p) h k = sum s p h k
-  next_held (got s) (stop r) h k = k
-  next_held (stop r) p h k = h
+  next_held (Ok s) (Ok p) h k = sum s p h k
+  next_held (Ok s) (Err r) h k = k
+  next_held (Err r) p h k = h
 
   pub sum_held : (p : ℕ → Out A) (k : ℕ) → ((i : ℕ) → i ≤ k → Satisfies P R (p i)) → Satisfies P R (sum_to add p k)
   unfolding sum_to

@@ -1,13 +1,13 @@
 -- Sums of products: vector times matrix, matrix times vector, matrix times matrix. Assumes nothing.
-use Rattle.std.specs.Prelude.{ℕ, zero, suc, ◌-◌, ◌*◌, ◌/◌, ◌%◌, List}
+use Rattle.std.specs.Prelude.{ℕ, zero, suc, ◌-◌, ◌*◌, ◌/◌, ◌%◌, List, Ok, Err}
 use Rattle.scalar.specs.Step.{step_of}
-use Rattle.components.specs.Components.{Out, got, stop, each_component, step_result, lane, binary_at}
+use Rattle.components.specs.Components.{Out, each_component, step_result, lane, binary_at}
 
 -- a sum and the next product: the sum's refusal comes first, then the product's, then that of adding them
 abbrev pub plus_next : {A : Type 0} → (A → A → Out A) → Out A → Out A → Out A
-plus_next add (got s) (got p) = add s p
-plus_next add (got s) (stop r) = stop r
-plus_next add (stop r) p = stop r
+plus_next add (Ok s) (Ok p) = add s p
+plus_next add (Ok s) (Err r) = Err r
+plus_next add (Err r) p = Err r
 
 -- p0, p1, p0 + p1, p2 and so on up to product k, each step rounded and checked
 unfoldable pub sum_to : {A : Type 0} → (A → A → Out A) → (ℕ → Out A) → ℕ → Out A

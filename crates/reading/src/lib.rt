@@ -7,6 +7,7 @@ ghost use Rattle.std.specs.Io.KnownBytes.{Consumes, IsAtEnd};
 use std::io::{Read, Result};
 
 // Reads until the buffer is full or the input ends. Says how many bytes it put at the start of the buffer.
+// std's `read_exact` does not say how many a shorter input gave, and `read_to_end` allocates.
 pub fn fill<R: Read>(from: &mut R, buf: &mut [u8]) -> Result<usize>
     ensures bound { IfOk result (λ n. n ≤ length buf.new) }
     ensures bytes { IfOk result (λ n. Consumes (R.remaining from.old) (R.remaining from.new) (take n buf.new)) }

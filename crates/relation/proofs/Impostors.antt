@@ -1,5 +1,6 @@
 -- Wrong programs that the contracts exclude: at these operands each definition has another answer than they. Assumes nothing.
 use Rattle.std.proofs.Common.{◌≡◌, true, false, List, [], ◌∷◌, pos, negsuc, refl}
+use Rattle.std.specs.Prelude.{Some}
 use lib.Ieee.{nan, eq, ne, lt, le}
 use Rattle.value.specs.declared.Scalar.TheVariants.{Bool as bool, I32}
 use Rattle.value.specs.declared.Pair.TheVariants as P
@@ -10,17 +11,17 @@ use Rattle.relation.specs.Comparison.{truth, eq_of, ne_of, lt_of, le_of, gt_of, 
 pub relation_witnesses : List Result
 relation_witnesses =
     -- `==` that finds a NaN equal to itself; `!=` that does not find it unequal
-    eq_of (P.F32 nan nan) ∷ ne_of (P.F32 nan nan)
+    eq_of (Some (P.F32 nan nan)) ∷ ne_of (Some (P.F32 nan nan))
     -- `<` that orders Bools; that compares a U32 as signed bits
-    ∷ lt_of (P.Bool false true) ∷ lt_of (P.U32 1 0x80000000)
+    ∷ lt_of (Some (P.Bool false true)) ∷ lt_of (Some (P.U32 1 0x80000000))
     -- `<=` that leaves out the equal; that is not `>`, of a NaN
-    ∷ le_of (P.I32 (negsuc 0) (negsuc 0)) ∷ le_of (P.F32 nan nan)
+    ∷ le_of (Some (P.I32 (negsuc 0) (negsuc 0))) ∷ le_of (Some (P.F32 nan nan))
     -- `>` that lets in the equal; that has the operands swapped
-    ∷ gt_of (P.U32 5 5) ∷ gt_of (P.I32 (pos 1) (negsuc 0))
+    ∷ gt_of (Some (P.U32 5 5)) ∷ gt_of (Some (P.I32 (pos 1) (negsuc 0)))
     -- `>=` that leaves out the equal; that is not `<`, of a NaN
-    ∷ ge_of (P.U32 5 5) ∷ ge_of (P.F32 nan nan)
+    ∷ ge_of (Some (P.U32 5 5)) ∷ ge_of (Some (P.F32 nan nan))
     -- `||` and `&&` that look at one operand; that take integers
-    ∷ or_of (P.Bool false true) ∷ and_of (P.Bool true false) ∷ and_of (P.U32 1 1)
+    ∷ or_of (Some (P.Bool false true)) ∷ and_of (Some (P.Bool true false)) ∷ and_of (Some (P.U32 1 1))
     -- `!` that gives the operand; that takes an integer
     ∷ not_of (bool true) ∷ not_of (I32 (pos 0)) ∷ []
 

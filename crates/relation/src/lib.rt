@@ -5,10 +5,9 @@ pub mod comparison;
 pub mod logical;
 
 // Two operands of one type as the numbers that they are.
-#[derive(Clone, Copy)]
+#[derive(Clone, Copy, Debug, PartialEq)]
 pub(crate) enum Numbers {
     Truths(bool, bool),
     Wholes(i64, i64),
     Reals(f64, f64),
-    None,
 }

@@ -5,25 +5,25 @@ ghost use Rattle.relation.specs.Logical.{and_of, not_of, or_of};
 ghost use Rattle.value.specs.Pair.{pair_of};
 
 use conversion::common::pair;
-use value::{Answer, Pair, Scalar};
+use value::{Answer, OperatorError, Pair, Scalar};
 
 // `||` on two operands of one type.
-pub fn or_pair(p: Pair) -> Answer
+pub fn or_pair(p: Option<Pair>) -> Answer
     ensures { answer_of result ≡ or_of p }
 {
     match p {
-        Pair::Bool(x, y) => Answer::Value(Scalar::Bool(x | y)),
-        _ => Answer::Binary,
+        Some(Pair::Bool(x, y)) => Ok(Scalar::Bool(x | y)),
+        _ => Err(OperatorError::Binary),
     }
 }
 
 // `&&` on two operands of one type.
-pub fn and_pair(p: Pair) -> Answer
+pub fn and_pair(p: Option<Pair>) -> Answer
     ensures { answer_of result ≡ and_of p }
 {
     match p {
-        Pair::Bool(x, y) => Answer::Value(Scalar::Bool(x & y)),
-        _ => Answer::Binary,
+        Some(Pair::Bool(x, y)) => Ok(Scalar::Bool(x & y)),
+        _ => Err(OperatorError::Binary),
     }
 }
 
@@ -46,7 +46,7 @@ pub fn op_not(s: Scalar) -> Answer
     ensures { answer_of result ≡ not_of s }
 {
     match s {
-        Scalar::Bool(x) => Answer::Value(Scalar::Bool(!x)),
-        _ => Answer::Unary,
+        Scalar::Bool(x) => Ok(Scalar::Bool(!x)),
+        _ => Err(OperatorError::Unary),
     }
 }

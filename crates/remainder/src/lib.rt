@@ -2,9 +2,11 @@
 #![tactic(auto)]
 
 ghost use Rattle.std.specs.Prelude.{◌≡◌, ◌+◌, ◌*◌, ◌%◌, ◌^◌, ◌<◌, ◌≤◌};
-ghost use Rattle.rounding.specs.Kind.{single, double};
+ghost use Rattle.rounding.specs.Kind.{of_format};
 ghost use Rattle.rounding.specs.Arithmetic.{rem};
 ghost use Rattle.remainder.specs.Units.{digits_of, places_of, units_of};
+
+use rounding::Float;
 
 // The digits of a magnitude's pattern, where h is the weight of the exponent's field.
 fn digits(a: u64, h: u64) -> u64
@@ -39,10 +41,8 @@ fn reduced(m: u64, n: u64, up: u64) -> u64
     ensures { (result ≡ m * 2 ^ up % n) × (result < n) }
 {
     let mut c = m % n;
-    let mut i = 0;
-    while i < up {
+    for _ in 0..up {
         c = doubled(c, n);
-        i = i + 1;
     }
     c
 }
@@ -54,14 +54,11 @@ fn packed(c: u64, e: u64, h: u64) -> u64
 {
     let mut m = c;
     let mut p = e;
-    while 0 < p {
-        if h <= m {
-            return p * h + m;
-        }
-        m = m + m;
-        p = p - 1;
+    while (0 < p) & (m < h) {
+        m += m;
+        p -= 1;
     }
-    m
+    p * h + m
 }
 
 // The pattern of what one magnitude leaves by another.
@@ -78,47 +75,25 @@ fn rem_size(a: u64, b: u64, h: u64) -> u64
 }
 
 // What x leaves by y: the exact truncated remainder, with the sign of x. A NaN, an infinite x and a zero y give NaN.
-pub fn rem_f64(x: f64, y: f64) -> f64
-    ensures { result ≡ rem double x y }
+pub fn rem<F: Float>(x: F, y: F) -> F
+    ensures { F.value result ≡ rem (of_format F.format) (F.value x) (F.value y) }
 {
-    if !rounding::finite_f64(x) {
-        return 0.0 / 0.0;
+    if !x.is_finite() {
+        return F::nan();
     }
-    if y != y {
-        return 0.0 / 0.0;
+    if y.is_nan() {
+        return F::nan();
     }
-    if !rounding::finite_f64(y) {
+    if !y.is_finite() {
         return x;
     }
-    let w = rounding::f64_bits(x);
-    let a = w % 0x8000_0000_0000_0000;
-    let b = rounding::f64_bits(y) % 0x8000_0000_0000_0000;
+    let sign = F::SIGN;
+    let w = x.bits();
+    let a = w % sign;
+    let b = y.bits() % sign;
     if b == 0 {
-        return 0.0 / 0.0;
+        return F::nan();
     }
-    let r = rem_size(a, b, 0x10_0000_0000_0000);
-    rounding::f64_of_bits(w - a + r)
-}
-
-// The same of 32 bits.
-pub fn rem_f32(x: f32, y: f32) -> f32
-    ensures { result ≡ rem single x y }
-{
-    if !rounding::finite_f32(x) {
-        return 0.0 / 0.0;
-    }
-    if y != y {
-        return 0.0 / 0.0;
-    }
-    if !rounding::finite_f32(y) {
-        return x;
-    }
-    let w = rounding::f32_bits(x) as u64;
-    let a = w % 0x8000_0000;
-    let b = (rounding::f32_bits(y) as u64) % 0x8000_0000;
-    if b == 0 {
-        return 0.0 / 0.0;
-    }
-    let r = rem_size(a, b, 0x80_0000);
-    rounding::f32_of_bits((w - a + r) as u32)
+    let r = rem_size(a, b, F::LEAD);
+    F::of_bits(w - a + r)
 }

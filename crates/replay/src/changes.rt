@@ -1,11 +1,9 @@
 // Changes, several in a row over one buffer; after each of them every byte of the buffer is compared.
 use cases::answers;
-use std::num::wrapping_add_usize;
 
-// Where the next change stands in a record, where the bytes stand that the buffer must hold, and whether all was right so far.
+// Where the next change stands in a record, and where the bytes stand that the buffer must hold.
 #[derive(Clone, Copy)]
 struct Place {
-    right: bool,
     at: usize,
     bytes: usize,
 }
@@ -24,44 +22,33 @@ fn is_answered(sheet: &[u8], results: &mut [u8], change: &[u8]) -> bool {
 
 // The places after the change at a place: after it stands 1 where the whole buffer follows, of n bytes, and else 0.
 fn after(change: &[u8], n: usize, p: Place) -> Place {
-    let at = wrapping_add_usize(p.at, 19);
+    let at = p.at.wrapping_add(19);
     if low::byte(change, 18) == 1 {
         return Place {
-            right: p.right,
-            at: wrapping_add_usize(at, n),
+            at: at.wrapping_add(n),
             bytes: at,
         };
     }
-    Place {
-        right: p.right,
-        at,
-        bytes: p.bytes,
-    }
+    Place { at, ..p }
 }
 
-// One change, and whether it answers and leaves the bytes that it must.
-fn changed(sheet: &[u8], case: &[u8], results: &mut [u8], p: Place) -> Place {
+// One change, and the places after it, if it answers and leaves the bytes that it must.
+fn changed(sheet: &[u8], case: &[u8], results: &mut [u8], p: Place) -> Option<Place> {
     let change = low::part(case, p.at, 19);
     let right = is_answered(sheet, results, change);
     let q = after(change, results.len(), p);
     let same = check::same(results, low::part(case, q.bytes, results.len()));
-    Place {
-        right: right & same,
-        at: q.at,
-        bytes: q.bytes,
-    }
+    (right & same).then_some(q)
 }
 
 // Each of the changes that a record has, from a place on.
 fn all_changed(sheet: &[u8], case: &[u8], results: &mut [u8], first: Place, count: usize) -> bool {
     let mut p = first;
-    let mut left = count;
-    while 0 < left {
-        p = changed(sheet, case, results, p);
-        if !p.right {
+    for _ in 0..count {
+        let Some(next) = changed(sheet, case, results, p) else {
             return false;
-        }
-        left -= 1;
+        };
+        p = next;
     }
     true
 }
@@ -85,7 +72,6 @@ pub(crate) fn is_right(case: &[u8]) -> bool {
     let mut results = [0u8; 32768];
     put(&mut results, low::part(case, start, size));
     let first = Place {
-        right: true,
         at: end + 2,
         bytes: start,
     };

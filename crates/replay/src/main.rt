@@ -20,12 +20,11 @@ enum Kind {
     Changes,
 }
 
-// The cases so far, those of them that were right, and whether the list goes on.
-#[derive(Clone, Copy)]
+// The cases so far, and those of them that were right.
+#[derive(Clone, Copy, Default)]
 struct Tally {
     cases: u64,
     right: u64,
-    go: bool,
 }
 
 // Whether a record's answer is given. One of operators goes through the C functions and through the layer's own.
@@ -65,76 +64,49 @@ fn line<P: Print>(rt: &P, what: &str, n: u64) -> io::Result<()> {
 
 // One case more. The first few wrong ones are named by their number in the list, counted from 0.
 fn counted<P: Print>(rt: &P, t: Tally, right: bool) -> io::Result<Tally> {
-    if !right & (std::num::wrapping_sub_u64(t.cases, t.right) < 5) {
+    if !right & (t.cases.wrapping_sub(t.right) < 5) {
         line(rt, "wrong ", t.cases)?;
     }
     Ok(Tally {
-        cases: std::num::wrapping_add_u64(t.cases, 1),
-        right: std::num::wrapping_add_u64(t.right, right as u64),
-        go: true,
+        cases: t.cases.wrapping_add(1),
+        right: t.right.wrapping_add(u64::from(right)),
     })
 }
 
-// No case is left.
-fn ended(t: Tally) -> Tally {
-    Tally {
-        cases: t.cases,
-        right: t.right,
-        go: false,
-    }
-}
-
-// The next record, counted. One that buf cannot hold ends the list.
-fn turn<P: Print, F: Read>(
-    rt: &P,
-    file: &mut F,
-    kind: Kind,
-    buf: &mut [u8],
-    t: Tally,
-) -> io::Result<Tally> {
+// Whether the next record's answer is given. One that buf cannot hold ends the list, as its end does.
+fn turn<F: Read>(file: &mut F, kind: Kind, buf: &mut [u8]) -> io::Result<Option<bool>> {
     let n = size(file, kind)?;
     if (buf.len() as u64) < n {
-        return Ok(ended(t));
+        return Ok(None);
     }
     let e = n as usize;
     let got = reading::fill(file, &mut buf[0..e])?;
     if got == 0 {
-        return Ok(ended(t));
+        return Ok(None);
     }
-    counted(rt, t, is_right(kind, &buf[0..got]))
+    Ok(Some(is_right(kind, &buf[0..got])))
 }
 
 // Every record of a list.
 fn run<P: Print, F: Read>(rt: &P, file: &mut F, kind: Kind) -> io::Result<Tally> {
     let mut buf = [0u8; 65536];
-    let mut t = none();
-    let mut turns = u64::MAX;
-    while 0 < turns {
-        t = turn(rt, file, kind, &mut buf, t)?;
-        if !t.go {
+    let mut t = Tally::default();
+    for _ in 0..u64::MAX {
+        let Some(right) = turn(file, kind, &mut buf)? else {
             return Ok(t);
-        }
-        turns -= 1;
+        };
+        t = counted(rt, t, right)?;
     }
     Ok(t)
-}
-
-// No case so far.
-fn none() -> Tally {
-    Tally {
-        cases: 0,
-        right: 0,
-        go: true,
-    }
 }
 
 // The list of a name. One that cannot be opened has no cases, nor has a name that is no UTF-8.
 fn list<R: Files + Print>(rt: &R, path: &[u8], kind: Kind) -> io::Result<Tally> {
     let Ok(path) = str::from_utf8(path) else {
-        return Ok(none());
+        return Ok(Tally::default());
     };
     let Ok(mut file) = fs::open(rt, path) else {
-        return Ok(none());
+        return Ok(Tally::default());
     };
     run(rt, &mut file, kind)
 }
@@ -152,11 +124,17 @@ fn replay<R: Env + Files + Print>(rt: &R, i: usize, kind: Kind) -> io::Result<()
 
 // The lists in the order of the arguments.
 fn main(rt: HostRuntime) -> io::Result<()> {
-    replay(&rt, 1, Kind::Rounding)?;
-    replay(&rt, 2, Kind::Rounding)?;
-    replay(&rt, 3, Kind::Scalars)?;
-    replay(&rt, 4, Kind::Shapes)?;
-    replay(&rt, 5, Kind::Sheets)?;
-    replay(&rt, 6, Kind::Slots)?;
-    replay(&rt, 7, Kind::Changes)
+    let kinds = [
+        Kind::Rounding,
+        Kind::Rounding,
+        Kind::Scalars,
+        Kind::Shapes,
+        Kind::Sheets,
+        Kind::Slots,
+        Kind::Changes,
+    ];
+    for (i, kind) in kinds.iter().enumerate() {
+        replay(&rt, i + 1, *kind)?;
+    }
+    Ok(())
 }

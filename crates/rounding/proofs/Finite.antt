@@ -1,25 +1,19 @@
--- Finite is: above the negative infinity and below the positive one; by the bits without the sign, below the infinity's. Assumes nothing.
+-- Finite is, by the bits without the sign, below the infinity's. Assumes nothing.
 use Rattle.std.proofs.Common.{◌≡◌, ℕ, suc, ◌+◌, ◌-◌, ◌*◌, ◌/◌, ◌%◌, ◌<◌, ◌≤◌, Bool, true, false, eqb, ltb, leb, sym, refl, ap, ◌∙◌, le_of_eq, lt_of_lt_of_le, mod-lt, zero-lt-suc, mul_comm, div-lt_iff_lt-mul, mul-pos, le-div_iff_mul-le, arith, pow_pos, ltb-false, ltb-true, eqb-true}
-use lib.Ieee.{Float, nan, inf, fin, lt}
+use lib.Ieee.{Float, nan, inf, fin}
+use Rattle.std.specs.Float.{float_is_finite}
 use borrow.Author.Tests.{eqb-false}
 use Rattle.rounding.specs.Kind.{Kind, least}
 use Rattle.rounding.specs.Bits.{finite, of_bits, of_fields, hidden, full, signed}
 use Rattle.rounding.proofs.Units.{odd_finite}
 use Rattle.rounding.proofs.Fields.{read, fields_low, fields_mid, fields_inf, fields_nan}
 
-pub finite_above : (x : Float) → lt (inf true) x ≡ true → lt x (inf false) ≡ finite x
-unfolding lt
-finite_above nan h = refl
-finite_above (inf true) h = sym h
-finite_above (inf false) h = refl
-finite_above (fin s m e) h = refl
-
-pub finite_below : (x : Float) → lt (inf true) x ≡ false → false ≡ finite x
-unfolding lt
-finite_below nan h = refl
-finite_below (inf true) h = refl
-finite_below (inf false) h = refl
-finite_below (fin s m e) h = sym h
+-- the library's own test tells it
+pub finite_is : (x : Float) → float_is_finite x ≡ finite x
+unfolding float_is_finite
+finite_is nan = refl
+finite_is (inf s) = refl
+finite_is (fin s m e) = refl
 
 -- ---- by the bits
 module _ (k : Kind) (s : Bool) (x t : ℕ) where

@@ -1,7 +1,7 @@
 -- A value by its bits in one kind, rounded to another. Assumes nothing.
 use Rattle.std.proofs.Common.{◌≡◌, ℕ, ◌+◌, ◌-◌, ◌*◌, ◌/◌, ◌%◌, ◌^◌, min, Bool, cond, leb, sym, refl, ap, ◌∙◌, mul_assoc, pow_pos, pow-add}
 use lib.Ieee.{Float, inf, odd}
-use Rattle.rounding.specs.Kind.{Kind, kind, least, convert}
+use Rattle.rounding.specs.Kind.{Kind, least, convert}
 use Rattle.rounding.specs.Bits.{hidden, full, signed, to_bits, of_bits}
 use Rattle.rounding.specs.Pack.{pack}
 use Rattle.rounding.proofs.Fields.{read, fields_low, fields_mid, fields_inf}

@@ -1,13 +1,20 @@
 -- At 24 digits and a reach of 127, and at 53 and 1023, each definition of `specs/` is the language's own. Assumes nothing.
 use Rattle.std.proofs.Common.{◌≡◌, ℕ, zero, suc, ◌/◌, ◌%◌, Bool, leb, ℤ, pos, negsuc, refl}
 use lib.Ieee as Ieee
-use lib.Ieee.{Float, Format, nan, inf, fin}
-use Rattle.rounding.specs.Kind.{Kind, units_in, round_to, of_integer}
+use lib.Ieee.{Float, Format, binary32, binary64, nan, inf, fin}
+use Rattle.rounding.specs.Kind.{Kind, single, double, of_format, units_in, round_to, of_integer}
 use Rattle.rounding.specs.Arithmetic.{sum, add, sub, mul, div, rem}
 use Rattle.rounding.specs.Bits.{of_fields, of_bits, to_bits, signed, hidden}
 
 abbrev pub of : Format → Kind
 of f = record { digits = Ieee.prec f; reach = Ieee.emax f }
+
+-- the formats of F32 and F64 are their kinds
+pub single_is : of_format binary32 ≡ single
+single_is = refl
+
+pub double_is : of_format binary64 ≡ double
+double_is = refl
 
 pub round_is : (f : Format) (s : Bool) (a b : ℕ) → Ieee.round f s a b ≡ round_to (of f) s a b
 unfolding Ieee.round Ieee.units round_to units_in

@@ -3,7 +3,7 @@
 -- the language's own `lib.Ieee`, which has F32 and F64 (`proofs/Same.antt`); F16 asks for any kind. `Nearest.antt` and `Rounded.antt` say what it means. Assumes nothing.
 use Rattle.std.specs.Prelude.{ℕ, suc, ◌+◌, ◌-◌, ◌*◌, ◌/◌, ◌^◌, Bool, true, false, cond, ℤ, pos, negsuc, nat_lt, Float}
 use Rattle.std.specs.Float.{nan, inf, fin}
-use Rattle.std.specs.Float.Ieee.{up, down, size, odd}
+use Rattle.std.specs.Float.Ieee.{up, down, size, odd, Format, prec, emax}
 use Rattle.std.specs.Float.Ieee.Nearest.{closest}
 
 -- how many binary digits a significand has, and the exponent of the largest values, which lie below 2 ^ (reach + 1)
@@ -23,6 +23,10 @@ single = kind 24 127
 
 abbrev pub double : Kind
 double = kind 53 1023
+
+-- the kind of one of the language's own formats
+abbrev pub of_format : Format → Kind
+of_format f = kind (prec f) (emax f)
 
 -- the smallest positive value is 2 ^ -least
 abbrev pub least : Kind → ℕ

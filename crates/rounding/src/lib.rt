@@ -6,13 +6,14 @@
 // 7FF8000000000000.
 #![tactic(auto)]
 
+mod floats; // F32 and F64 as one
+mod kind; // a kind: its digits and its reach
 mod narrow; // to a kind: f64, f32 and i64 to F16, f32 and f64
-mod patterns; // bits and values, and which values are finite
+mod patterns; // which F16s are finite
 mod places; // the core: a whole number rounded by a number of places
 mod widen; // from F16 to f32
 
+pub use floats::Float;
 pub use narrow::{f32_to_half, f64_to_f32, f64_to_half, i64_to_f32, i64_to_f64, i64_to_half};
-pub use patterns::{
-    f32_bits, f32_of_bits, f64_bits, f64_of_bits, finite_f32, finite_f64, finite_half,
-};
+pub use patterns::finite_half;
 pub use widen::half_to_f32;

@@ -37,10 +37,10 @@ pub fn half_to_f32(h: u16) -> f32
         return small(neg, size);
     }
     if size > 0x7c00 {
-        return 0.0 / 0.0;
+        return f32::NAN;
     }
     if neg {
-        return -1.0 / 0.0;
+        return f32::NEG_INFINITY;
     }
-    1.0 / 0.0
+    f32::INFINITY
 }

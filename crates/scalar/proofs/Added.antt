@@ -12,6 +12,7 @@ use lib.Ieee.Fits.{mul-fits}
 use borrow.Author.Tests.{eqb-true, ltb-true, lt-ltb, le-ltb}
 use mir.Syntax.{Width, w16, w32, w64}
 use mir.Val.{Fits, bits}
+use Rattle.std.specs.Prelude.{Some, Ok, Err}
 use Rattle.rounding.specs.Kind.{Kind, half, single, double, convert}
 use Rattle.rounding.specs.Arithmetic.{add, mul}
 use Rattle.rounding.specs.Bits.{to_bits, of_bits, finite}
@@ -21,17 +22,14 @@ use Rattle.rounding.proofs.Units.{half_sized}
 use Rattle.rounding.proofs.Width.{bits_lt, kept_pattern}
 use Rattle.value.specs.declared.Scalar.{Scalar}
 use Rattle.value.specs.declared.Scalar.TheVariants.{AbstractFloat, F32, F16}
-use Rattle.value.specs.declared.Found.TheVariants.{Value}
 use Rattle.value.specs.declared.Refusal.{Refusal}
-use Rattle.value.specs.declared.Answer.TheVariants.{AddOverflow, MulOverflow}
-use Rattle.scalar.specs.declared.Step.{Step}
-use Rattle.scalar.specs.declared.Step.TheVariants as S
-use Rattle.value.specs.Answer.{Result, value, refusal, answer_of, stage_of}
+use Rattle.value.specs.declared.OperatorError.TheVariants.{AddOverflow, MulOverflow}
+use Rattle.value.specs.Answer.{Result, value, refusal, refused_by, stage_of}
 use Rattle.arithmetic.specs.Arithmetic.{settled, half_of, arithmetic}
 use Rattle.value.specs.Scalar.{type_of, finite_of, bits_of, scalar_of}
 use Rattle.value.specs.Pair.{pair_of, both_of}
 use Rattle.value.specs.Pattern.{pick, kept_of, nan_pattern}
-use Rattle.scalar.specs.Step.{stepped, step_of, on_bits, product_added}
+use Rattle.scalar.specs.Step.{Step, stepped, step_of, on_bits, checked_of, outcome_of, product_at, sum_at, product_added}
 use Rattle.arithmetic.proofs.Arms.{half_arm}
 use Rattle.types.proofs.Choice.{picked, passed}
 use Rattle.low.proofs.Tests.{both}
@@ -42,24 +40,16 @@ use Rattle.value.specs.Refusals as No
 -- ---- by two steps
 module _ (stage ty sum l r : ℕ) {a : Step} (e : a ≡ step_of 5 stage ty l r) where
   -- the product's refusal stands
-  pub no_product : {n : Refusal} → a ≡ S.Refused n → a ≡ product_added stage ty sum l r
+  pub no_product : {n : Refusal} → a ≡ Err n → a ≡ product_added stage ty sum l r
   unfolding product_added
   no_product h = h ∙ ap (λ (a : Step). on_bits a (step_of 3 stage ty sum)) (sym h ∙ e)
 
   -- the product's bits go on
-  pub with_product : {t b : ℕ} {o : Step} → a ≡ S.Bits t b → o ≡ step_of 3 stage ty sum b → o ≡ product_added stage ty sum l r
+  pub with_product : {t b : ℕ} {o : Step} → a ≡ Ok (t, b) → o ≡ step_of 3 stage ty sum b → o ≡ product_added stage ty sum l r
   unfolding product_added
   with_product h k = k ∙ ap (λ (a : Step). on_bits a (step_of 3 stage ty sum)) (sym h ∙ e)
 
 -- ---- by a kernel
--- a result's bits; or, where finite results are asked for (s), the refusal n of one that is not finite (f)
-abbrev checked_of : Bool → Bool → ℕ → ℕ → ℕ → Step
-checked_of s f n ty b = pick (s && not f) (S.Refused (refusal n 0)) (S.Bits ty b)
-
--- the same of a sum, after the refusal of a product that is not finite (f)
-abbrev outcome_of : Bool → Bool → Bool → ℕ → ℕ → Step
-outcome_of s f g ty b = pick (s && not f) (S.Refused (refusal No.MulOverflow 0)) (checked_of s g 4 ty b)
-
 -- a float result, as `+` and `*` settle it
 abbrev checked : Bool → Result → Scalar → Result
 checked s why v = pick (finite_of v) (value v) (pick s why (value v))
@@ -78,7 +68,7 @@ tested false true why v = refl
 tested false false why v = refl
 
 -- what goes on with the bits alone goes on with the step
-goes_on : (t : Bool) (n : Refusal) (ty b : ℕ) (k : ℕ → Step) → pick t (S.Refused n) (k b) ≡ on_bits (pick t (S.Refused n) (S.Bits ty b)) k
+goes_on : (t : Bool) (n : Refusal) (ty b : ℕ) (k : ℕ → Step) → pick t (Err n) (k b) ≡ on_bits (pick t (Err n) (Ok (ty, b))) k
 goes_on true n ty b k = refl
 goes_on false n ty b k = refl
 
@@ -86,22 +76,22 @@ goes_on false n ty b k = refl
 pub record Works {X : Type 0} (make : X → Scalar) (read : ℕ → X) (by : (Kind → Float → Float → Float) → X → X → X)
     (w : Width) (stage ty : ℕ) (s : Bool) : Type 0 where
   typed : (x : X) → type_of (make x) ≡ ty
-  reads : (b : ℕ) → Fits w b → Value (make (read b)) ≡ scalar_of ty b
+  reads : (b : ℕ) → Fits w b → Some (make (read b)) ≡ scalar_of ty b
   works : (z : ℤ → ℤ → ℤ) (f : Kind → Float → Float → Float) (why : Result) (x y : X)
       → checked s why (make (by f x y)) ≡ arithmetic z f why (stage_of stage) (pair_of (make x) (make y))
 
 module _ {X : Type 0} {make : X → Scalar} {read : ℕ → X} {by : (Kind → Float → Float → Float) → X → X → X} {w : Width} {stage ty : ℕ} {s : Bool}
     (h : Works make read by w stage ty s) where
   -- what is read from a pattern is the scalar of the pattern
-  found : (b : ℕ) {x : X} → Fits w b → x ≡ read b → Value (make x) ≡ scalar_of ty b
-  found b f e = ap (λ (x : X). Value (make x)) e ∙ h.reads b f
+  found : (b : ℕ) {x : X} → Fits w b → x ≡ read b → Some (make x) ≡ scalar_of ty b
+  found b f e = ap (λ (x : X). Some (make x)) e ∙ h.reads b f
 
   -- an operator's result p, checked, is its step
   worked : (z : ℤ → ℤ → ℤ) (f : Kind → Float → Float → Float) (why : Result) (l r : ℕ) {x y p : X} {g : Bool} {b : ℕ}
-      → Value (make x) ≡ scalar_of ty l → Value (make y) ≡ scalar_of ty r → p ≡ by f x y → g ≡ finite_of (make p) → b ≡ bits_of (make p)
-      → pick (s && not g) (stepped why) (S.Bits ty b) ≡ stepped (arithmetic z f why (stage_of stage) (both_of (scalar_of ty l) (scalar_of ty r)))
+      → Some (make x) ≡ scalar_of ty l → Some (make y) ≡ scalar_of ty r → p ≡ by f x y → g ≡ finite_of (make p) → b ≡ bits_of (make p)
+      → pick (s && not g) (stepped why) (Ok (ty, b)) ≡ stepped (arithmetic z f why (stage_of stage) (both_of (scalar_of ty l) (scalar_of ty r)))
   worked z f why l r {x} {y} {p} lx ry m e k =
-      (λ i. pick (s && not (e i)) (stepped why) (S.Bits (sym (h.typed p) i) (k i))) ∙ tested s (finite_of (make p)) why (value (make p))
+      (λ i. pick (s && not (e i)) (stepped why) (Ok (sym (h.typed p) i, k i))) ∙ tested s (finite_of (make p)) why (value (make p))
       ∙ ap (λ (p : X). stepped (checked s why (make p))) m ∙ ap stepped (h.works z f why x y)
       ∙ (λ i. stepped (arithmetic z f why (stage_of stage) (both_of (lx i) (ry i))))
 
@@ -109,31 +99,19 @@ module _ {X : Type 0} {make : X → Scalar} {read : ℕ → X} {by : (Kind → F
     -- the product p, checked
     product : {f : Bool} {b : ℕ} → f ≡ finite_of (make p) → b ≡ bits_of (make p) → checked_of s f 6 ty b ≡ step_of 5 stage ty l r
     unfolding step_of
-    product = worked ◌*ℤ◌ mul (answer_of MulOverflow) l r (found l u lx) (found r v ry) m
+    product = worked ◌*ℤ◌ mul (refused_by MulOverflow) l r (found l u lx) (found r v ry) m
 
     -- the sum t with a product that is read back from its bits
-    by_kernel : (sum : ℕ) → Fits w sum → {q t : X} → q ≡ read sum → Value (make p) ≡ scalar_of ty (bits_of (make p)) → t ≡ by add q p
+    by_kernel : (sum : ℕ) → Fits w sum → {q t : X} → q ≡ read sum → Some (make p) ≡ scalar_of ty (bits_of (make p)) → t ≡ by add q p
         → {o : Step} {f g : Bool} {b : ℕ} → f ≡ finite_of (make p) → g ≡ finite_of (make t) → b ≡ bits_of (make t)
         → o ≡ outcome_of s f g ty b → o ≡ product_added stage ty sum l r
     unfolding product_added step_of
     by_kernel sum d sq back a {f = f} e g k c =
-        c ∙ ap (pick (s && not f) (S.Refused (refusal No.MulOverflow 0))) (worked ◌+ℤ◌ add (answer_of AddOverflow) sum (bits_of (make p)) (found sum d sq) back a g k)
+        c ∙ ap (pick (s && not f) (Err (refusal No.MulOverflow 0))) (worked ◌+ℤ◌ add (refused_by AddOverflow) sum (bits_of (make p)) (found sum d sq) back a g k)
         ∙ goes_on (s && not f) (refusal No.MulOverflow 0) ty (bits_of (make p)) (step_of 3 stage ty sum) ∙ ap (λ (a : Step). on_bits a (step_of 3 stage ty sum)) (product e refl)
 
 -- ---- in F32 and F64, where a product is read back because it fits
-module _ (g : Format) {make : Float → Scalar} {w : Width} {stage ty : ℕ} {s : Bool} (h : Works make (of_bits (of g)) (λ f. f (of g)) w stage ty s)
-    (l r : ℕ) (u : Fits w l) (v : Fits w r) {x y : Float} (lx : x ≡ of_bits (of g) l) (ry : y ≡ of_bits (of g) r) where
-  pub float_times : {o : Step} {f : Bool} {b : ℕ} → f ≡ finite_of (make (Ieee.mul g x y)) → b ≡ bits_of (make (Ieee.mul g x y))
-      → o ≡ checked_of s f 6 ty b → o ≡ step_of 5 stage ty l r
-  float_times e k c = c ∙ product h l r u v lx ry (mul_is g x y) e k
-
-  pub float_added : ((x : Float) → T (fits g x) → Value (make x) ≡ scalar_of ty (bits_of (make x))) → (sum : ℕ) → Fits w sum → {o : Step} {f k : Bool} {t : Float} {b : ℕ}
-      → t ≡ of_bits (of g) sum → f ≡ finite_of (make (Ieee.mul g x y)) → k ≡ finite_of (make (Ieee.add g t (Ieee.mul g x y)))
-      → b ≡ bits_of (make (Ieee.add g t (Ieee.mul g x y))) → o ≡ outcome_of s f k ty b → o ≡ product_added stage ty sum l r
-  float_added back sum d {t = t} st =
-      by_kernel h l r u v lx ry (mul_is g x y) sum d st (back (Ieee.mul g x y) (mul-fits g x y)) (add_is g t (Ieee.mul g x y))
-
-pub f32_works : (stage : ℕ) → Works F32 (of_bits single) (λ f. f single) w32 stage 5 (ltb stage 2)
+f32_works : (stage : ℕ) → Works F32 (of_bits single) (λ f. f single) w32 stage 5 (ltb stage 2)
 f32_works stage =
     record {
       typed = λ x. refl;
@@ -142,11 +120,23 @@ f32_works stage =
     }
 
 -- a value that fits is read back from its bits
-pub f32_back : (x : Float) → T (fits binary32 x) → Value (F32 x) ≡ scalar_of 5 (to_bits single x)
-f32_back x t = ap (λ (x : Float). Value (F32 x)) (sym (bits_back binary32 x t)) ∙ picked _ _ (bits_proper (F32 x) t)
+f32_back : (x : Float) → T (fits binary32 x) → Some (F32 x) ≡ scalar_of 5 (to_bits single x)
+f32_back x t = ap (λ (x : Float). Some (F32 x)) (sym (bits_back binary32 x t)) ∙ picked _ _ (bits_proper (F32 x) t)
+
+product_fits : (g : Format) (x y : Float) → T (fits g (mul (of g) x y))
+product_fits g x y = subst (λ (p : Float). T (fits g p)) (mul_is g x y) (mul-fits g x y)
+
+module _ (stage l r : ℕ) (u : Fits w32 l) (v : Fits w32 r) {o : Step} where
+  pub f32_times : o ≡ product_at single (ltb stage 2) 5 l r → o ≡ step_of 5 stage 5 l r
+  f32_times c = c ∙ product (f32_works stage) l r u v refl refl refl refl refl
+
+  pub f32_added : (sum : ℕ) → Fits w32 sum → o ≡ sum_at single (ltb stage 2) 5 sum l r → o ≡ product_added stage 5 sum l r
+  f32_added sum d c =
+      by_kernel (f32_works stage) l r u v refl refl refl sum d refl
+      (f32_back (mul single (of_bits single l) (of_bits single r)) (product_fits binary32 (of_bits single l) (of_bits single r))) refl refl refl refl c
 
 -- in F64 every stage asks for finite results
-pub f64_works : (stage : ℕ) → Works AbstractFloat (of_bits double) (λ f. f double) w64 stage 2 true
+f64_works : (stage : ℕ) → Works AbstractFloat (of_bits double) (λ f. f double) w64 stage 2 true
 f64_works stage =
     record {
       typed = λ x. refl;
@@ -154,8 +144,17 @@ f64_works stage =
       works = λ z f why x y. refl;
     }
 
-pub f64_back : (x : Float) → T (fits binary64 x) → Value (AbstractFloat x) ≡ scalar_of 2 (to_bits double x)
-f64_back x t = ap (λ (x : Float). Value (AbstractFloat x)) (sym (bits_back binary64 x t)) ∙ picked _ _ (bits_proper (AbstractFloat x) t)
+f64_back : (x : Float) → T (fits binary64 x) → Some (AbstractFloat x) ≡ scalar_of 2 (to_bits double x)
+f64_back x t = ap (λ (x : Float). Some (AbstractFloat x)) (sym (bits_back binary64 x t)) ∙ picked _ _ (bits_proper (AbstractFloat x) t)
+
+module _ (stage l r : ℕ) (u : Fits w64 l) (v : Fits w64 r) {o : Step} where
+  pub f64_times : o ≡ product_at double true 2 l r → o ≡ step_of 5 stage 2 l r
+  f64_times c = c ∙ product (f64_works stage) l r u v refl refl refl refl refl
+
+  pub f64_added : (sum : ℕ) → Fits w64 sum → o ≡ sum_at double true 2 sum l r → o ≡ product_added stage 2 sum l r
+  f64_added sum d c =
+      by_kernel (f64_works stage) l r u v refl refl refl sum d refl
+      (f64_back (mul double (of_bits double l) (of_bits double r)) (product_fits binary64 (of_bits double l) (of_bits double r))) refl refl refl refl c
 
 -- ---- in F16, by bits
 -- any NaN's pattern is read as the kept one
@@ -180,9 +179,9 @@ module _ {b : ℕ} (v : Float) (e : b ≡ to_half v) where
   kept : b ≡ kept_of 6 b
   kept = e ∙ rounded_kept v ∙ ap (kept_of 6) (sym e)
 
-  kept_back : Value (F16 b) ≡ scalar_of 6 (kept_of 6 b)
+  kept_back : Some (F16 b) ≡ scalar_of 6 (kept_of 6 b)
   kept_back =
-      ap (λ (b : ℕ). Value (F16 b)) (kept ∙ sym (kept_once 6 b))
+      ap (λ (b : ℕ). Some (F16 b)) (kept ∙ sym (kept_once 6 b))
       ∙ picked _ _ (bits_proper (F16 b) (subst (Fits w16) (sym e) (record { fits = bits_lt half half_sized v })))
 
 half_works : (stage : ℕ) → Works F16 (kept_of 6) (λ f x y. to_half (f single (of_bits half x) (of_bits half y))) w16 stage 6 (ltb stage 2)

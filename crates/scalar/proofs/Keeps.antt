@@ -13,11 +13,11 @@ use borrow.Author.Tests.{ltb-true, ltb-false, not-false}
 use mir.Syntax.{Width, w16, w32, w64}
 use mir.Val.{Fits, SFits, of_z}
 use mir.ValLaws.{to_z-Fits, sfits_le, Fits-div, Fits-mod, Fits-not, Fits-and, Fits-or, Fits-xor}
+use Rattle.std.specs.Prelude.{Option, Some, None}
 use Rattle.integer.specs.Range.{pick, in_signed, in_unsigned, whole_of}
 use Rattle.integer.specs.Wrap.{wrap_s, wrap_u, not_z}
 use Rattle.quotient.specs.Quotient.{no_quotient}
 use Rattle.shift.specs.Shift.{shl_over, shl_over_u}
-use Rattle.integer.specs.declared.Whole.TheVariants as W
 use Rattle.integer.proofs.Wrap.{wrap_u_fits}
 use Rattle.quotient.proofs.Division.{quot_fits}
 use Rattle.types.specs.Types.{integer_of}
@@ -31,12 +31,10 @@ use Rattle.value.specs.declared.Scalar.{Scalar}
 use Rattle.value.specs.declared.Scalar.TheVariants.{Bool as bool, AbstractInt, AbstractFloat, I32, U32, F32, F16}
 use Rattle.value.specs.declared.ShaderStage.{ShaderStage}
 use Rattle.value.specs.declared.Refusal.{Refusal}
-use Rattle.value.specs.declared.Answer.TheVariants.{AddOverflow, SubOverflow, MulOverflow, DivByZero, RemZeroDiv}
-use Rattle.value.specs.declared.Found.{Found}
-use Rattle.value.specs.declared.Found.TheVariants.{Value, Nothing}
+use Rattle.value.specs.declared.OperatorError.TheVariants.{AddOverflow, SubOverflow, MulOverflow, DivByZero, RemZeroDiv}
 use Rattle.value.specs.declared.Pair.{Pair}
 use Rattle.value.specs.declared.Pair.TheVariants as P
-use Rattle.value.specs.Answer.{Result, value, refused, shift_refused, refusal, carries, answer_of, strict}
+use Rattle.value.specs.Answer.{Result, value, refused, shift_refused, refusal, carries, refused_by, strict}
 use Rattle.value.specs.Pattern.{proper_of, kept_of}
 use Rattle.value.specs.Scalar.{type_of, finite_of, kept_scalar}
 use Rattle.arithmetic.specs.Arithmetic.{in_exec, finite_or, settled, whole_or, half_of, arithmetic, add_of, sub_of, mul_of, no_div, div_of, no_rem, rem_of, neg_of}
@@ -131,20 +129,20 @@ neg_half_fits x f = go (ltb 31744 (x % 32768)) (ltb x 32768) refl refl
 whole_kept : (ty : ℕ) (why : Result) (z : ℤ) → ty ≡ 1 → Kept ty why → Kept ty (whole_or (whole_of z) why)
 whole_kept ty why z t w = go (in_signed w64 z) refl
   where
-    go : (b : Bool) → in_signed w64 z ≡ b → Kept ty (whole_or (pick b (W.Value z) W.Over) why)
+    go : (b : Bool) → in_signed w64 z ≡ b → Kept ty (whole_or (pick b (Some z) None) why)
     go true e = (sym t, signed_in w64 z e)
     go false e = w
 
 module _ (z : ℤ → ℤ → ℤ) (f : Kind → Float → Float → Float) (fit : (g : Format) (x y : Float) → T (fits g (f (of g) x y))) (why : Result) (w : (ty : ℕ) → Kept ty why) where
-  arithmetic_kept : (stage : ShaderStage) (ty : ℕ) (p : Pair) → Couple ty p → Kept ty (arithmetic z f why stage p)
-  arithmetic_kept stage ty (P.Bool x y) h = no_binary
-  arithmetic_kept stage ty (P.AbstractInt x y) h = whole_kept ty why (z x y) h.0 (w ty)
-  arithmetic_kept stage ty (P.AbstractFloat x y) h = finite_or_lem ty (AbstractFloat (f double x y)) why (sym h.0, fit binary64 x y) (w ty)
-  arithmetic_kept stage ty (P.I32 x y) h = (sym h.0, wrapped w32 (z x y))
-  arithmetic_kept stage ty (P.U32 x y) h = (sym h.0, wrap_u_fits w32 (z (pos x) (pos y)))
-  arithmetic_kept stage ty (P.F32 x y) h = settles ty stage why (F32 (f single x y)) (w ty) (sym h.0, fit binary32 x y)
-  arithmetic_kept stage ty (P.F16 x y) h = settles ty stage why (half_of f x y) (w ty) (sym h.0, rounded_half (f single (of_bits half x) (of_bits half y)))
-  arithmetic_kept stage ty P.None h = no_binary
+  arithmetic_kept : (stage : ShaderStage) (ty : ℕ) (p : Option Pair) → Couple ty p → Kept ty (arithmetic z f why stage p)
+  arithmetic_kept stage ty (Some (P.Bool x y)) h = no_binary
+  arithmetic_kept stage ty (Some (P.AbstractInt x y)) h = whole_kept ty why (z x y) h.0 (w ty)
+  arithmetic_kept stage ty (Some (P.AbstractFloat x y)) h = finite_or_lem ty (AbstractFloat (f double x y)) why (sym h.0, fit binary64 x y) (w ty)
+  arithmetic_kept stage ty (Some (P.I32 x y)) h = (sym h.0, wrapped w32 (z x y))
+  arithmetic_kept stage ty (Some (P.U32 x y)) h = (sym h.0, wrap_u_fits w32 (z (pos x) (pos y)))
+  arithmetic_kept stage ty (Some (P.F32 x y)) h = settles ty stage why (F32 (f single x y)) (w ty) (sym h.0, fit binary32 x y)
+  arithmetic_kept stage ty (Some (P.F16 x y)) h = settles ty stage why (half_of f x y) (w ty) (sym h.0, rounded_half (f single (of_bits half x) (of_bits half y)))
+  arithmetic_kept stage ty None h = no_binary
 
 add_fit : (g : Format) (x y : Float) → T (fits g (add (of g) x y))
 add_fit g x y = subst (λ (v : Float). T (fits g v)) (add_is g x y) (add-fits g x y)
@@ -161,14 +159,14 @@ div_fit g x y = subst (λ (v : Float). T (fits g v)) (div_is g x y) (div-fits g 
 rem_fit : (g : Format) (x y : Float) → T (fits g x) → T (fits g (rem (of g) x y))
 rem_fit g x y f = subst (λ (v : Float). T (fits g v)) (rem_is g x y) (rem-fits g x y f)
 
-pub add_kept : (stage : ShaderStage) (ty : ℕ) (p : Pair) → Couple ty p → Kept ty (add_of stage p)
-add_kept = arithmetic_kept ◌+ℤ◌ add add_fit (answer_of AddOverflow) (λ ty. plainly 4 (omega arith) (omega arith) (λ e. omega arith) refl)
+pub add_kept : (stage : ShaderStage) (ty : ℕ) (p : Option Pair) → Couple ty p → Kept ty (add_of stage p)
+add_kept = arithmetic_kept ◌+ℤ◌ add add_fit (refused_by AddOverflow) (λ ty. plainly 4 (omega arith) (omega arith) (λ e. omega arith) refl)
 
-pub sub_kept : (stage : ShaderStage) (ty : ℕ) (p : Pair) → Couple ty p → Kept ty (sub_of stage p)
-sub_kept = arithmetic_kept ◌-ℤ◌ sub sub_fit (answer_of SubOverflow) (λ ty. plainly 5 (omega arith) (omega arith) (λ e. omega arith) refl)
+pub sub_kept : (stage : ShaderStage) (ty : ℕ) (p : Option Pair) → Couple ty p → Kept ty (sub_of stage p)
+sub_kept = arithmetic_kept ◌-ℤ◌ sub sub_fit (refused_by SubOverflow) (λ ty. plainly 5 (omega arith) (omega arith) (λ e. omega arith) refl)
 
-pub mul_kept : (stage : ShaderStage) (ty : ℕ) (p : Pair) → Couple ty p → Kept ty (mul_of stage p)
-mul_kept = arithmetic_kept ◌*ℤ◌ mul mul_fit (answer_of MulOverflow) (λ ty. plainly 6 (omega arith) (omega arith) (λ e. omega arith) refl)
+pub mul_kept : (stage : ShaderStage) (ty : ℕ) (p : Option Pair) → Couple ty p → Kept ty (mul_of stage p)
+mul_kept = arithmetic_kept ◌*ℤ◌ mul mul_fit (refused_by MulOverflow) (λ ty. plainly 6 (omega arith) (omega arith) (λ e. omega arith) refl)
 
 no_div_lem : Refuses (refusal No.DivByZero 0)
 no_div_lem = plainly 7 (omega arith) (omega arith) (λ e. omega arith) refl
@@ -176,78 +174,78 @@ no_div_lem = plainly 7 (omega arith) (omega arith) (λ e. omega arith) refl
 no_rem_lem : Refuses (refusal No.RemZeroDiv 0)
 no_rem_lem = plainly 8 (omega arith) (omega arith) (λ e. omega arith) refl
 
-pub div_kept : (stage : ShaderStage) (ty : ℕ) (p : Pair) → Couple ty p → Kept ty (div_of stage p)
-div_kept stage ty (P.Bool x y) h = no_binary
-div_kept stage ty (P.AbstractInt x y) h =
+pub div_kept : (stage : ShaderStage) (ty : ℕ) (p : Option Pair) → Couple ty p → Kept ty (div_of stage p)
+div_kept stage ty (Some (P.Bool x y)) h = no_binary
+div_kept stage ty (Some (P.AbstractInt x y)) h =
     chosen ty (no_quotient w64 x y) (no_div stage (AbstractInt x)) (value (AbstractInt (quot_z x y)))
-    (λ e. exec ty stage (answer_of DivByZero) (AbstractInt x) no_div_lem (sym h.0, h.1.0)) (λ e. (sym h.0, quot_fits w64 x y h.1.0 h.1.1 e))
-div_kept stage ty (P.AbstractFloat x y) h =
+    (λ e. exec ty stage (refused_by DivByZero) (AbstractInt x) no_div_lem (sym h.0, h.1.0)) (λ e. (sym h.0, quot_fits w64 x y h.1.0 h.1.1 e))
+div_kept stage ty (Some (P.AbstractFloat x y)) h =
     finite_or_lem ty (AbstractFloat (div double x y)) (no_div stage (AbstractFloat x)) (sym h.0, div_fit binary64 x y)
-    (exec ty stage (answer_of DivByZero) (AbstractFloat x) no_div_lem (sym h.0, h.1.0))
-div_kept stage ty (P.I32 x y) h =
+    (exec ty stage (refused_by DivByZero) (AbstractFloat x) no_div_lem (sym h.0, h.1.0))
+div_kept stage ty (Some (P.I32 x y)) h =
     chosen ty (no_quotient w32 x y) (no_div stage (I32 x)) (value (I32 (quot_z x y)))
-    (λ e. exec ty stage (answer_of DivByZero) (I32 x) no_div_lem (sym h.0, h.1.0)) (λ e. (sym h.0, quot_fits w32 x y h.1.0 h.1.1 e))
-div_kept stage ty (P.U32 x y) h =
+    (λ e. exec ty stage (refused_by DivByZero) (I32 x) no_div_lem (sym h.0, h.1.0)) (λ e. (sym h.0, quot_fits w32 x y h.1.0 h.1.1 e))
+div_kept stage ty (Some (P.U32 x y)) h =
     chosen ty (eqb y 0) (no_div stage (U32 x)) (value (U32 (x / y)))
-    (λ e. exec ty stage (answer_of DivByZero) (U32 x) no_div_lem (sym h.0, h.1.0)) (λ e. (sym h.0, Fits-div x y h.1.0))
-div_kept stage ty (P.F32 x y) h =
+    (λ e. exec ty stage (refused_by DivByZero) (U32 x) no_div_lem (sym h.0, h.1.0)) (λ e. (sym h.0, Fits-div x y h.1.0))
+div_kept stage ty (Some (P.F32 x y)) h =
     finite_or_lem ty (F32 (div single x y)) (no_div stage (F32 x)) (sym h.0, div_fit binary32 x y)
-    (exec ty stage (answer_of DivByZero) (F32 x) no_div_lem (sym h.0, h.1.0))
-div_kept stage ty (P.F16 x y) h =
+    (exec ty stage (refused_by DivByZero) (F32 x) no_div_lem (sym h.0, h.1.0))
+div_kept stage ty (Some (P.F16 x y)) h =
     finite_or_lem ty (half_of div x y) (no_div stage (kept_scalar (F16 x))) (sym h.0, rounded_half (div single (of_bits half x) (of_bits half y)))
-    (exec ty stage (answer_of DivByZero) (kept_scalar (F16 x)) no_div_lem (sym h.0, kept_sound (F16 x) h.1.0))
-div_kept stage ty P.None h = no_binary
+    (exec ty stage (refused_by DivByZero) (kept_scalar (F16 x)) no_div_lem (sym h.0, kept_sound (F16 x) h.1.0))
+div_kept stage ty None h = no_binary
 
 zero_fits : (w : Width) → SFits w (pos 0)
 zero_fits w = record { sfits = lib.Pow.pow_pos (mir.Val.hbits w) }
 
-pub rem_kept : (stage : ShaderStage) (ty : ℕ) (p : Pair) → Couple ty p → Kept ty (rem_of stage p)
-rem_kept stage ty (P.Bool x y) h = no_binary
-rem_kept stage ty (P.AbstractInt x y) h =
+pub rem_kept : (stage : ShaderStage) (ty : ℕ) (p : Option Pair) → Couple ty p → Kept ty (rem_of stage p)
+rem_kept stage ty (Some (P.Bool x y)) h = no_binary
+rem_kept stage ty (Some (P.AbstractInt x y)) h =
     chosen ty (no_quotient w64 x y) (no_rem stage (AbstractInt (pos 0))) (value (AbstractInt (rem_z x y)))
-    (λ e. exec ty stage (answer_of RemZeroDiv) (AbstractInt (pos 0)) no_rem_lem (sym h.0, zero_fits w64)) (λ e. (sym h.0, sfits_le (mag_rem x y) h.1.0))
-rem_kept stage ty (P.AbstractFloat x y) h = finite_or_lem ty (AbstractFloat (rem double x y)) (answer_of RemZeroDiv) (sym h.0, rem_fit binary64 x y h.1.0) no_rem_lem
-rem_kept stage ty (P.I32 x y) h =
+    (λ e. exec ty stage (refused_by RemZeroDiv) (AbstractInt (pos 0)) no_rem_lem (sym h.0, zero_fits w64)) (λ e. (sym h.0, sfits_le (mag_rem x y) h.1.0))
+rem_kept stage ty (Some (P.AbstractFloat x y)) h = finite_or_lem ty (AbstractFloat (rem double x y)) (refused_by RemZeroDiv) (sym h.0, rem_fit binary64 x y h.1.0) no_rem_lem
+rem_kept stage ty (Some (P.I32 x y)) h =
     chosen ty (no_quotient w32 x y) (no_rem stage (I32 (pos 0))) (value (I32 (rem_z x y)))
-    (λ e. exec ty stage (answer_of RemZeroDiv) (I32 (pos 0)) no_rem_lem (sym h.0, zero_fits w32)) (λ e. (sym h.0, sfits_le (mag_rem x y) h.1.0))
-rem_kept stage ty (P.U32 x y) h =
+    (λ e. exec ty stage (refused_by RemZeroDiv) (I32 (pos 0)) no_rem_lem (sym h.0, zero_fits w32)) (λ e. (sym h.0, sfits_le (mag_rem x y) h.1.0))
+rem_kept stage ty (Some (P.U32 x y)) h =
     chosen ty (eqb y 0) (no_rem stage (U32 0)) (value (U32 (x % y)))
-    (λ e. exec ty stage (answer_of RemZeroDiv) (U32 0) no_rem_lem (sym h.0, record { fits = omega arith })) (λ e. (sym h.0, Fits-mod x y h.1.0))
-rem_kept stage ty (P.F32 x y) h = settles ty stage (answer_of RemZeroDiv) (F32 (rem single x y)) no_rem_lem (sym h.0, rem_fit binary32 x y h.1.0)
-rem_kept stage ty (P.F16 x y) h = settles ty stage (answer_of RemZeroDiv) (half_of rem x y) no_rem_lem (sym h.0, rounded_half (rem single (of_bits half x) (of_bits half y)))
-rem_kept stage ty P.None h = no_binary
+    (λ e. exec ty stage (refused_by RemZeroDiv) (U32 0) no_rem_lem (sym h.0, record { fits = omega arith })) (λ e. (sym h.0, Fits-mod x y h.1.0))
+rem_kept stage ty (Some (P.F32 x y)) h = settles ty stage (refused_by RemZeroDiv) (F32 (rem single x y)) no_rem_lem (sym h.0, rem_fit binary32 x y h.1.0)
+rem_kept stage ty (Some (P.F16 x y)) h = settles ty stage (refused_by RemZeroDiv) (half_of rem x y) no_rem_lem (sym h.0, rounded_half (rem single (of_bits half x) (of_bits half y)))
+rem_kept stage ty None h = no_binary
 
 -- ---- `|| &&` and comparisons
-pub logical_kept : (f : Bool → Bool → Bool) (ty : ℕ) (p : Pair) → Couple ty p → Kept ty (logical f p)
-logical_kept f ty (P.Bool x y) h = (sym h, tt)
-logical_kept f ty (P.AbstractInt x y) h = no_binary
-logical_kept f ty (P.AbstractFloat x y) h = no_binary
-logical_kept f ty (P.I32 x y) h = no_binary
-logical_kept f ty (P.U32 x y) h = no_binary
-logical_kept f ty (P.F32 x y) h = no_binary
-logical_kept f ty (P.F16 x y) h = no_binary
-logical_kept f ty P.None h = no_binary
+pub logical_kept : (f : Bool → Bool → Bool) (ty : ℕ) (p : Option Pair) → Couple ty p → Kept ty (logical f p)
+logical_kept f ty (Some (P.Bool x y)) h = (sym h, tt)
+logical_kept f ty (Some (P.AbstractInt x y)) h = no_binary
+logical_kept f ty (Some (P.AbstractFloat x y)) h = no_binary
+logical_kept f ty (Some (P.I32 x y)) h = no_binary
+logical_kept f ty (Some (P.U32 x y)) h = no_binary
+logical_kept f ty (Some (P.F32 x y)) h = no_binary
+logical_kept f ty (Some (P.F16 x y)) h = no_binary
+logical_kept f ty None h = no_binary
 
 module _ (z : ℤ → ℤ → Bool) (f : Float → Float → Bool) where
-  pub equality_kept : (b : Bool → Bool → Bool) (p : Pair) → Kept 0 (equality b z f (numbers_of p))
-  equality_kept b (P.Bool x y) = (refl, tt)
-  equality_kept b (P.AbstractInt x y) = (refl, tt)
-  equality_kept b (P.AbstractFloat x y) = (refl, tt)
-  equality_kept b (P.I32 x y) = (refl, tt)
-  equality_kept b (P.U32 x y) = (refl, tt)
-  equality_kept b (P.F32 x y) = (refl, tt)
-  equality_kept b (P.F16 x y) = (refl, tt)
-  equality_kept b P.None = no_binary
+  pub equality_kept : (b : Bool → Bool → Bool) (p : Option Pair) → Kept 0 (equality b z f (numbers_of p))
+  equality_kept b (Some (P.Bool x y)) = (refl, tt)
+  equality_kept b (Some (P.AbstractInt x y)) = (refl, tt)
+  equality_kept b (Some (P.AbstractFloat x y)) = (refl, tt)
+  equality_kept b (Some (P.I32 x y)) = (refl, tt)
+  equality_kept b (Some (P.U32 x y)) = (refl, tt)
+  equality_kept b (Some (P.F32 x y)) = (refl, tt)
+  equality_kept b (Some (P.F16 x y)) = (refl, tt)
+  equality_kept b None = no_binary
 
-  pub order_kept : (p : Pair) → Kept 0 (order z f (numbers_of p))
-  order_kept (P.Bool x y) = no_binary
-  order_kept (P.AbstractInt x y) = (refl, tt)
-  order_kept (P.AbstractFloat x y) = (refl, tt)
-  order_kept (P.I32 x y) = (refl, tt)
-  order_kept (P.U32 x y) = (refl, tt)
-  order_kept (P.F32 x y) = (refl, tt)
-  order_kept (P.F16 x y) = (refl, tt)
-  order_kept P.None = no_binary
+  pub order_kept : (p : Option Pair) → Kept 0 (order z f (numbers_of p))
+  order_kept (Some (P.Bool x y)) = no_binary
+  order_kept (Some (P.AbstractInt x y)) = (refl, tt)
+  order_kept (Some (P.AbstractFloat x y)) = (refl, tt)
+  order_kept (Some (P.I32 x y)) = (refl, tt)
+  order_kept (Some (P.U32 x y)) = (refl, tt)
+  order_kept (Some (P.F32 x y)) = (refl, tt)
+  order_kept (Some (P.F16 x y)) = (refl, tt)
+  order_kept None = no_binary
 
 -- ---- bits
 module _ (bools : Bool → Bool → Result) (op : ℕ → ℕ → ℕ) (k : (ty : ℕ) (x y : Bool) → ty ≡ 0 → Kept ty (bools x y))
@@ -255,23 +253,23 @@ module _ (bools : Bool → Bool → Result) (op : ℕ → ℕ → ℕ) (k : (ty 
   on_bits_lem : (w : Width) (x y : ℤ) → SFits w x → SFits w y → SFits w (signed_bits w op x y)
   on_bits_lem w x y f g = to_z-Fits w (op (of_z w x) (of_z w y)) (fit w (of_z w x) (of_z w y) (bits_fit w x f) (bits_fit w y g))
 
-  bitwise_kept : (ty : ℕ) (p : Pair) → Couple ty p → Kept ty (bitwise bools op p)
-  bitwise_kept ty (P.Bool x y) h = k ty x y h
-  bitwise_kept ty (P.AbstractInt x y) h = (sym h.0, on_bits_lem w64 x y h.1.0 h.1.1)
-  bitwise_kept ty (P.AbstractFloat x y) h = no_binary
-  bitwise_kept ty (P.I32 x y) h = (sym h.0, on_bits_lem w32 x y h.1.0 h.1.1)
-  bitwise_kept ty (P.U32 x y) h = (sym h.0, fit w32 x y h.1.0 h.1.1)
-  bitwise_kept ty (P.F32 x y) h = no_binary
-  bitwise_kept ty (P.F16 x y) h = no_binary
-  bitwise_kept ty P.None h = no_binary
+  bitwise_kept : (ty : ℕ) (p : Option Pair) → Couple ty p → Kept ty (bitwise bools op p)
+  bitwise_kept ty (Some (P.Bool x y)) h = k ty x y h
+  bitwise_kept ty (Some (P.AbstractInt x y)) h = (sym h.0, on_bits_lem w64 x y h.1.0 h.1.1)
+  bitwise_kept ty (Some (P.AbstractFloat x y)) h = no_binary
+  bitwise_kept ty (Some (P.I32 x y)) h = (sym h.0, on_bits_lem w32 x y h.1.0 h.1.1)
+  bitwise_kept ty (Some (P.U32 x y)) h = (sym h.0, fit w32 x y h.1.0 h.1.1)
+  bitwise_kept ty (Some (P.F32 x y)) h = no_binary
+  bitwise_kept ty (Some (P.F16 x y)) h = no_binary
+  bitwise_kept ty None h = no_binary
 
-pub bitor_kept : (ty : ℕ) (p : Pair) → Couple ty p → Kept ty (bit_or_of p)
+pub bitor_kept : (ty : ℕ) (p : Option Pair) → Couple ty p → Kept ty (bit_or_of p)
 bitor_kept = bitwise_kept Rattle.bitwise.specs.Bits.either bit_or (λ ty x y e. (sym e, tt)) (λ w a b f g. Fits-or a b f g)
 
-pub bitand_kept : (ty : ℕ) (p : Pair) → Couple ty p → Kept ty (bit_and_of p)
+pub bitand_kept : (ty : ℕ) (p : Option Pair) → Couple ty p → Kept ty (bit_and_of p)
 bitand_kept = bitwise_kept Rattle.bitwise.specs.Bits.both bit_and (λ ty x y e. (sym e, tt)) (λ w a b f g. Fits-and a b f)
 
-pub bitxor_kept : (ty : ℕ) (p : Pair) → Couple ty p → Kept ty (bit_xor_of p)
+pub bitxor_kept : (ty : ℕ) (p : Option Pair) → Couple ty p → Kept ty (bit_xor_of p)
 bitxor_kept = bitwise_kept Rattle.bitwise.specs.Bits.neither bit_xor (λ ty x y e. no_binary) (λ w a b f g. Fits-xor a b f g)
 
 -- ---- one operand
@@ -352,18 +350,18 @@ module _ (ty : ℕ) where
   reduced_kept (F32 x) n h = no_binary
   reduced_kept (F16 x) n h = no_binary
 
-  counted : (count : Found) (by : ℕ → Result) → OfType 4 count → ((n : ℕ) → n < 4294967296 → Kept ty (by n)) → Kept ty (by_count count by)
-  counted (Value (bool x)) by c k = no_binary
-  counted (Value (AbstractInt x)) by c k = no_binary
-  counted (Value (AbstractFloat x)) by c k = no_binary
-  counted (Value (I32 x)) by c k = no_binary
-  counted (Value (U32 n)) by c k = k n c.1.fits
-  counted (Value (F32 x)) by c k = no_binary
-  counted (Value (F16 x)) by c k = no_binary
-  counted Nothing by c k = no_binary
+  counted : (count : Option Scalar) (by : ℕ → Result) → OfType 4 count → ((n : ℕ) → n < 4294967296 → Kept ty (by n)) → Kept ty (by_count count by)
+  counted (Some (bool x)) by c k = no_binary
+  counted (Some (AbstractInt x)) by c k = no_binary
+  counted (Some (AbstractFloat x)) by c k = no_binary
+  counted (Some (I32 x)) by c k = no_binary
+  counted (Some (U32 n)) by c k = k n c.1.fits
+  counted (Some (F32 x)) by c k = no_binary
+  counted (Some (F16 x)) by c k = no_binary
+  counted None by c k = no_binary
 
-  pub shl_kept : (stage : ShaderStage) (s : Scalar) (count : Found) → OfType 4 count → (type_of s ≡ ty) × Sound s → Kept ty (shl_of stage s count)
+  pub shl_kept : (stage : ShaderStage) (s : Scalar) (count : Option Scalar) → OfType 4 count → (type_of s ≡ ty) × Sound s → Kept ty (shl_of stage s count)
   shl_kept stage s count c h = counted count (shl_by stage s) c (λ n z. chosen ty (strict stage) (shl_exact s n) (shl_wrapped s n) (λ e. exact_kept s n z h) (λ e. wrapped_kept s n h))
 
-  pub shr_kept : (stage : ShaderStage) (s : Scalar) (count : Found) → OfType 4 count → (type_of s ≡ ty) × Sound s → Kept ty (shr_of stage s count)
+  pub shr_kept : (stage : ShaderStage) (s : Scalar) (count : Option Scalar) → OfType 4 count → (type_of s ≡ ty) × Sound s → Kept ty (shr_of stage s count)
   shr_kept stage s count c h = counted count (shr_by stage s) c (λ n z. chosen ty (strict stage) (shr_exact s n) (shr_reduced s n) (λ e. floor_kept s n z h) (λ e. reduced_kept s n h))

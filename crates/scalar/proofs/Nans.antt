@@ -12,10 +12,9 @@ use lib.Ieee.{Float, neg, eq, ne, lt, le}
 use lib.Signed.{lt_z, le_z, quot_z, rem_z, shr_z}
 use borrow.Author.Tests.{le-ltb, ltb-true, ltb-false}
 use mir.Syntax.{w32, w64}
+use Rattle.std.specs.Prelude.{Option, Some, None}
 use Rattle.integer.specs.Equal.{eq_z}
 use Rattle.integer.specs.Range.{in_signed, whole_of}
-use Rattle.integer.specs.declared.Whole.{Whole}
-use Rattle.integer.specs.declared.Whole.TheVariants as W
 use Rattle.quotient.specs.Quotient.{no_quotient}
 use Rattle.shift.specs.Shift.{shl_over, shl_over_u}
 use Rattle.rounding.specs.Kind.{Kind, half, single, double, convert}
@@ -26,12 +25,10 @@ use Rattle.rounding.proofs.Width.{kept_pattern}
 use Rattle.value.specs.declared.Scalar.{Scalar}
 use Rattle.value.specs.declared.Scalar.TheVariants.{Bool as bool, AbstractInt, AbstractFloat, I32, U32, F32, F16}
 use Rattle.value.specs.declared.ShaderStage.{ShaderStage}
-use Rattle.value.specs.declared.Answer.TheVariants.{AddOverflow, SubOverflow, MulOverflow, DivByZero, RemZeroDiv}
-use Rattle.value.specs.declared.Found.{Found}
-use Rattle.value.specs.declared.Found.TheVariants.{Value, Nothing}
+use Rattle.value.specs.declared.OperatorError.TheVariants.{AddOverflow, SubOverflow, MulOverflow, DivByZero, RemZeroDiv}
 use Rattle.value.specs.declared.Pair.{Pair}
 use Rattle.value.specs.declared.Pair.TheVariants as P
-use Rattle.value.specs.Answer.{Result, value, refused, shift_refused, answer_of, unary, binary, strict}
+use Rattle.value.specs.Answer.{Result, value, refused, shift_refused, refused_by, unary, binary, strict}
 use Rattle.value.specs.Pattern.{pick, nan_pattern, kept_of}
 use Rattle.value.specs.Scalar.{finite_of, kept_scalar}
 use Rattle.value.proofs.Sound.{Sound, kept_once}
@@ -103,107 +100,107 @@ negated x f = ap F16 (go (ltb 31744 (x % 32768)) (ltb x 32768) refl refl)
         cleared (omega arith) (omega arith) (omega arith)
 
 -- ---- `+ - * / %`
-whole_nan : (w : Whole) (why : Result) → KeptNan why → KeptNan (whole_or w why)
-whole_nan (W.Value z) why k = refl
-whole_nan W.Over why k = k
+whole_nan : (w : Option ℤ) (why : Result) → KeptNan why → KeptNan (whole_or w why)
+whole_nan (Some z) why k = refl
+whole_nan None why k = k
 
-arithmetic_nan : (z : ℤ → ℤ → ℤ) (f : Kind → Float → Float → Float) (why : Result) → KeptNan why → (stage : ShaderStage) (p : Pair) → KeptNan (arithmetic z f why stage p)
+arithmetic_nan : (z : ℤ → ℤ → ℤ) (f : Kind → Float → Float → Float) (why : Result) → KeptNan why → (stage : ShaderStage) (p : Option Pair) → KeptNan (arithmetic z f why stage p)
 arithmetic_nan z f why w stage p =
     elim p as (λ p. KeptNan (arithmetic z f why stage p)) [
-      | P.Bool x y ↦ tt
-      | P.AbstractInt x y ↦ whole_nan (whole_of (z x y)) why w
-      | P.AbstractFloat x y ↦ one_of (finite_of (AbstractFloat (f double x y))) (value (AbstractFloat (f double x y))) why refl w
-      | P.I32 x y ↦ refl
-      | P.U32 x y ↦ refl
-      | P.F32 x y ↦ settles stage why (F32 (f single x y)) w refl
-      | P.F16 x y ↦ settles stage why (half_of f x y) w (rounded (f single (of_bits half x) (of_bits half y)))
-      | P.None ↦ tt
+      | Some (P.Bool x y) ↦ tt
+      | Some (P.AbstractInt x y) ↦ whole_nan (whole_of (z x y)) why w
+      | Some (P.AbstractFloat x y) ↦ one_of (finite_of (AbstractFloat (f double x y))) (value (AbstractFloat (f double x y))) why refl w
+      | Some (P.I32 x y) ↦ refl
+      | Some (P.U32 x y) ↦ refl
+      | Some (P.F32 x y) ↦ settles stage why (F32 (f single x y)) w refl
+      | Some (P.F16 x y) ↦ settles stage why (half_of f x y) w (rounded (f single (of_bits half x) (of_bits half y)))
+      | None ↦ tt
     ]
 
 -- what stands where `/` or `%` has no result
 in_exec_lem : (stage : ShaderStage) (why : Result) (s : Scalar) → KeptNan why → kept_scalar s ≡ s → KeptNan (in_exec stage why s)
 in_exec_lem stage why s w k = one_of (strict stage) why (value s) w k
 
-div_nan : (stage : ShaderStage) (p : Pair) → KeptNan (div_of stage p)
+div_nan : (stage : ShaderStage) (p : Option Pair) → KeptNan (div_of stage p)
 div_nan stage p =
     elim p as (λ p. KeptNan (div_of stage p)) [
-      | P.Bool x y ↦ tt
-      | P.AbstractInt x y ↦ one_of (no_quotient w64 x y) (no_div stage (AbstractInt x)) (value (AbstractInt (quot_z x y))) (in_exec_lem stage (answer_of DivByZero) (AbstractInt x) tt refl) refl
-      | P.AbstractFloat x y ↦
+      | Some (P.Bool x y) ↦ tt
+      | Some (P.AbstractInt x y) ↦ one_of (no_quotient w64 x y) (no_div stage (AbstractInt x)) (value (AbstractInt (quot_z x y))) (in_exec_lem stage (refused_by DivByZero) (AbstractInt x) tt refl) refl
+      | Some (P.AbstractFloat x y) ↦
           one_of (finite_of (AbstractFloat (div double x y))) (value (AbstractFloat (div double x y))) (no_div stage (AbstractFloat x)) refl
-          (in_exec_lem stage (answer_of DivByZero) (AbstractFloat x) tt refl)
-      | P.I32 x y ↦ one_of (no_quotient w32 x y) (no_div stage (I32 x)) (value (I32 (quot_z x y))) (in_exec_lem stage (answer_of DivByZero) (I32 x) tt refl) refl
-      | P.U32 x y ↦ one_of (eqb y 0) (no_div stage (U32 x)) (value (U32 (x / y))) (in_exec_lem stage (answer_of DivByZero) (U32 x) tt refl) refl
-      | P.F32 x y ↦
-          one_of (finite_of (F32 (div single x y))) (value (F32 (div single x y))) (no_div stage (F32 x)) refl (in_exec_lem stage (answer_of DivByZero) (F32 x) tt refl)
-      | P.F16 x y ↦
+          (in_exec_lem stage (refused_by DivByZero) (AbstractFloat x) tt refl)
+      | Some (P.I32 x y) ↦ one_of (no_quotient w32 x y) (no_div stage (I32 x)) (value (I32 (quot_z x y))) (in_exec_lem stage (refused_by DivByZero) (I32 x) tt refl) refl
+      | Some (P.U32 x y) ↦ one_of (eqb y 0) (no_div stage (U32 x)) (value (U32 (x / y))) (in_exec_lem stage (refused_by DivByZero) (U32 x) tt refl) refl
+      | Some (P.F32 x y) ↦
+          one_of (finite_of (F32 (div single x y))) (value (F32 (div single x y))) (no_div stage (F32 x)) refl (in_exec_lem stage (refused_by DivByZero) (F32 x) tt refl)
+      | Some (P.F16 x y) ↦
           one_of (finite_of (half_of div x y)) (value (half_of div x y)) (no_div stage (kept_scalar (F16 x))) (rounded (div single (of_bits half x) (of_bits half y)))
-          (in_exec_lem stage (answer_of DivByZero) (kept_scalar (F16 x)) tt (ap F16 (kept_once 6 x)))
-      | P.None ↦ tt
+          (in_exec_lem stage (refused_by DivByZero) (kept_scalar (F16 x)) tt (ap F16 (kept_once 6 x)))
+      | None ↦ tt
     ]
 
-rem_nan : (stage : ShaderStage) (p : Pair) → KeptNan (rem_of stage p)
+rem_nan : (stage : ShaderStage) (p : Option Pair) → KeptNan (rem_of stage p)
 rem_nan stage p =
     elim p as (λ p. KeptNan (rem_of stage p)) [
-      | P.Bool x y ↦ tt
-      | P.AbstractInt x y ↦
-          one_of (no_quotient w64 x y) (no_rem stage (AbstractInt (pos 0))) (value (AbstractInt (rem_z x y))) (in_exec_lem stage (answer_of RemZeroDiv) (AbstractInt (pos 0)) tt refl) refl
-      | P.AbstractFloat x y ↦ one_of (finite_of (AbstractFloat (rem double x y))) (value (AbstractFloat (rem double x y))) (answer_of RemZeroDiv) refl tt
-      | P.I32 x y ↦ one_of (no_quotient w32 x y) (no_rem stage (I32 (pos 0))) (value (I32 (rem_z x y))) (in_exec_lem stage (answer_of RemZeroDiv) (I32 (pos 0)) tt refl) refl
-      | P.U32 x y ↦ one_of (eqb y 0) (no_rem stage (U32 0)) (value (U32 (x % y))) (in_exec_lem stage (answer_of RemZeroDiv) (U32 0) tt refl) refl
-      | P.F32 x y ↦ settles stage (answer_of RemZeroDiv) (F32 (rem single x y)) tt refl
-      | P.F16 x y ↦ settles stage (answer_of RemZeroDiv) (half_of rem x y) tt (rounded (rem single (of_bits half x) (of_bits half y)))
-      | P.None ↦ tt
+      | Some (P.Bool x y) ↦ tt
+      | Some (P.AbstractInt x y) ↦
+          one_of (no_quotient w64 x y) (no_rem stage (AbstractInt (pos 0))) (value (AbstractInt (rem_z x y))) (in_exec_lem stage (refused_by RemZeroDiv) (AbstractInt (pos 0)) tt refl) refl
+      | Some (P.AbstractFloat x y) ↦ one_of (finite_of (AbstractFloat (rem double x y))) (value (AbstractFloat (rem double x y))) (refused_by RemZeroDiv) refl tt
+      | Some (P.I32 x y) ↦ one_of (no_quotient w32 x y) (no_rem stage (I32 (pos 0))) (value (I32 (rem_z x y))) (in_exec_lem stage (refused_by RemZeroDiv) (I32 (pos 0)) tt refl) refl
+      | Some (P.U32 x y) ↦ one_of (eqb y 0) (no_rem stage (U32 0)) (value (U32 (x % y))) (in_exec_lem stage (refused_by RemZeroDiv) (U32 0) tt refl) refl
+      | Some (P.F32 x y) ↦ settles stage (refused_by RemZeroDiv) (F32 (rem single x y)) tt refl
+      | Some (P.F16 x y) ↦ settles stage (refused_by RemZeroDiv) (half_of rem x y) tt (rounded (rem single (of_bits half x) (of_bits half y)))
+      | None ↦ tt
     ]
 
 -- ---- the others give no F16
-logical_nan : (f : Bool → Bool → Bool) (p : Pair) → KeptNan (logical f p)
+logical_nan : (f : Bool → Bool → Bool) (p : Option Pair) → KeptNan (logical f p)
 logical_nan f p =
-    elim p as (λ p. KeptNan (logical f p)) [ P.Bool x y ↦ refl | P.AbstractInt x y ↦ tt | P.AbstractFloat x y ↦ tt | P.I32 x y ↦ tt | P.U32 x y ↦ tt | P.F32 x y ↦ tt | P.F16 x y ↦ tt | P.None ↦ tt ]
+    elim p as (λ p. KeptNan (logical f p)) [ Some (P.Bool x y) ↦ refl | Some (P.AbstractInt x y) ↦ tt | Some (P.AbstractFloat x y) ↦ tt | Some (P.I32 x y) ↦ tt | Some (P.U32 x y) ↦ tt | Some (P.F32 x y) ↦ tt | Some (P.F16 x y) ↦ tt | None ↦ tt ]
 
-equality_nan : (b : Bool → Bool → Bool) (z : ℤ → ℤ → Bool) (f : Float → Float → Bool) (p : Pair) → KeptNan (equality b z f (numbers_of p))
+equality_nan : (b : Bool → Bool → Bool) (z : ℤ → ℤ → Bool) (f : Float → Float → Bool) (p : Option Pair) → KeptNan (equality b z f (numbers_of p))
 equality_nan b z f p =
     elim p as (λ p. KeptNan (equality b z f (numbers_of p))) [
-      | P.Bool x y ↦ refl
-      | P.AbstractInt x y ↦ refl
-      | P.AbstractFloat x y ↦ refl
-      | P.I32 x y ↦ refl
-      | P.U32 x y ↦ refl
-      | P.F32 x y ↦ refl
-      | P.F16 x y ↦ refl
-      | P.None ↦ tt
+      | Some (P.Bool x y) ↦ refl
+      | Some (P.AbstractInt x y) ↦ refl
+      | Some (P.AbstractFloat x y) ↦ refl
+      | Some (P.I32 x y) ↦ refl
+      | Some (P.U32 x y) ↦ refl
+      | Some (P.F32 x y) ↦ refl
+      | Some (P.F16 x y) ↦ refl
+      | None ↦ tt
     ]
 
-order_nan : (z : ℤ → ℤ → Bool) (f : Float → Float → Bool) (p : Pair) → KeptNan (order z f (numbers_of p))
+order_nan : (z : ℤ → ℤ → Bool) (f : Float → Float → Bool) (p : Option Pair) → KeptNan (order z f (numbers_of p))
 order_nan z f p =
     elim p as (λ p. KeptNan (order z f (numbers_of p))) [
-      | P.Bool x y ↦ tt
-      | P.AbstractInt x y ↦ refl
-      | P.AbstractFloat x y ↦ refl
-      | P.I32 x y ↦ refl
-      | P.U32 x y ↦ refl
-      | P.F32 x y ↦ refl
-      | P.F16 x y ↦ refl
-      | P.None ↦ tt
+      | Some (P.Bool x y) ↦ tt
+      | Some (P.AbstractInt x y) ↦ refl
+      | Some (P.AbstractFloat x y) ↦ refl
+      | Some (P.I32 x y) ↦ refl
+      | Some (P.U32 x y) ↦ refl
+      | Some (P.F32 x y) ↦ refl
+      | Some (P.F16 x y) ↦ refl
+      | None ↦ tt
     ]
 
-bitwise_nan : (bools : Bool → Bool → Result) (op : ℕ → ℕ → ℕ) → ((x y : Bool) → KeptNan (bools x y)) → (p : Pair) → KeptNan (bitwise bools op p)
+bitwise_nan : (bools : Bool → Bool → Result) (op : ℕ → ℕ → ℕ) → ((x y : Bool) → KeptNan (bools x y)) → (p : Option Pair) → KeptNan (bitwise bools op p)
 bitwise_nan bools op h p =
-    elim p as (λ p. KeptNan (bitwise bools op p)) [ P.Bool x y ↦ h x y | P.AbstractInt x y ↦ refl | P.AbstractFloat x y ↦ tt | P.I32 x y ↦ refl | P.U32 x y ↦ refl | P.F32 x y ↦ tt | P.F16 x y ↦ tt | P.None ↦ tt ]
+    elim p as (λ p. KeptNan (bitwise bools op p)) [ Some (P.Bool x y) ↦ h x y | Some (P.AbstractInt x y) ↦ refl | Some (P.AbstractFloat x y) ↦ tt | Some (P.I32 x y) ↦ refl | Some (P.U32 x y) ↦ refl | Some (P.F32 x y) ↦ tt | Some (P.F16 x y) ↦ tt | None ↦ tt ]
 
-pub binary_nan : (op : ℕ) (stage : ShaderStage) (p : Pair) → KeptNan (binary_of op stage p)
+pub binary_nan : (op : ℕ) (stage : ShaderStage) (p : Option Pair) → KeptNan (binary_of op stage p)
 binary_nan op stage p =
     entry (λ i r. KeptNan r) (binary ∷ binaries stage p) binary (λ i. tt) tt (logical_nan ◌||◌ p) (logical_nan ◌&&◌ p)
-    (arithmetic_nan ◌+ℤ◌ add (answer_of AddOverflow) tt stage p) (arithmetic_nan ◌-ℤ◌ sub (answer_of SubOverflow) tt stage p)
-    (arithmetic_nan ◌*ℤ◌ mul (answer_of MulOverflow) tt stage p) (div_nan stage p) (rem_nan stage p)
+    (arithmetic_nan ◌+ℤ◌ add (refused_by AddOverflow) tt stage p) (arithmetic_nan ◌-ℤ◌ sub (refused_by SubOverflow) tt stage p)
+    (arithmetic_nan ◌*ℤ◌ mul (refused_by MulOverflow) tt stage p) (div_nan stage p) (rem_nan stage p)
     (equality_nan beq eq_z eq p) (equality_nan (λ x y. not (beq x y)) (λ x y. not (eq_z x y)) ne p)
     (order_nan lt_z lt p) (order_nan le_z le p) (order_nan (λ x y. lt_z y x) (λ x y. lt y x) p) (order_nan (λ x y. le_z y x) (λ x y. le y x) p)
     (bitwise_nan either bit_or (λ x y. refl) p) (bitwise_nan both bit_and (λ x y. refl) p) (bitwise_nan neither bit_xor (λ x y. tt) p) op
 
 -- ---- shifts
-counted : (count : Found) (by : ℕ → Result) → ((n : ℕ) → KeptNan (by n)) → KeptNan (by_count count by)
-counted Nothing by h = tt
-counted (Value s) by h = elim s as (λ s. KeptNan (by_count (Value s) by)) [ bool x ↦ tt | AbstractInt x ↦ tt | AbstractFloat x ↦ tt | I32 x ↦ tt | U32 n ↦ h n | F32 x ↦ tt | F16 x ↦ tt ]
+counted : (count : Option Scalar) (by : ℕ → Result) → ((n : ℕ) → KeptNan (by n)) → KeptNan (by_count count by)
+counted None by h = tt
+counted (Some s) by h = elim s as (λ s. KeptNan (by_count (Some s) by)) [ bool x ↦ tt | AbstractInt x ↦ tt | AbstractFloat x ↦ tt | I32 x ↦ tt | U32 n ↦ h n | F32 x ↦ tt | F16 x ↦ tt ]
 
 shl_nan : (stage : ShaderStage) (s : Scalar) (n : ℕ) → KeptNan (shl_by stage s n)
 shl_nan stage s n =
@@ -229,7 +226,7 @@ shr_nan stage s n =
       | F16 x ↦ one_of (strict stage) _ _ tt tt
     ]
 
-shift_nan : (op : ℕ) (stage : ShaderStage) (s : Scalar) (count : Found) → KeptNan (shift_of op stage (Value s) count)
+shift_nan : (op : ℕ) (stage : ShaderStage) (s : Scalar) (count : Option Scalar) → KeptNan (shift_of op stage (Some s) count)
 shift_nan op stage s count =
     one_of (eqb op 17) (shl_of stage s count) (pick (eqb op 18) (shr_of stage s count) binary) (counted count (shl_by stage s) (shl_nan stage s))
     (one_of (eqb op 18) (shr_of stage s count) binary (counted count (shr_by stage s) (shr_nan stage s)) tt)
@@ -237,7 +234,7 @@ shift_nan op stage s count =
 -- ---- every operator of two operands, and of one
 pub operator_nan : (op : ℕ) (stage : ShaderStage) (l r : Scalar) → KeptNan (operator_of op stage l r)
 operator_nan op stage l r =
-    one_of (leb 17 op) (shift_of op stage (Value l) (convert_to 4 r)) (binary_of op stage (pick (leb op 2) (pair_of l r) (common_of l r)))
+    one_of (leb 17 op) (shift_of op stage (Some l) (convert_to 4 r)) (binary_of op stage (pick (leb op 2) (pair_of l r) (common_of l r)))
     (shift_nan op stage l (convert_to 4 r)) (binary_nan op stage (pick (leb op 2) (pair_of l r) (common_of l r)))
 
 not_nan : (s : Scalar) → KeptNan (not_of s)

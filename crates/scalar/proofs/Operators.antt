@@ -11,6 +11,7 @@ use lib.ListN.{get_or}
 use borrow.Author.Tests.{ltb-true, lt-leb}
 use mir.Syntax.{w32, w64}
 use mir.ValLaws.{to_z-of_z}
+use Rattle.std.specs.Prelude.{Option, Some, None, option_and_then}
 use Rattle.integer.specs.Range.{in_signed}
 use Rattle.rounding.specs.Kind.{half, single, double, convert, of_integer}
 use Rattle.rounding.specs.Bits.{to_bits, of_bits, finite}
@@ -21,9 +22,6 @@ use Rattle.types.proofs.Rows.{by_code}
 use Rattle.value.specs.declared.Scalar.{Scalar}
 use Rattle.value.specs.declared.Scalar.TheVariants.{Bool as bool, AbstractInt, AbstractFloat, I32, U32, F32, F16}
 use Rattle.value.specs.declared.ShaderStage.{ShaderStage}
-use Rattle.value.specs.declared.Found.{Found}
-use Rattle.value.specs.declared.Found.TheVariants.{Value, Nothing}
-use Rattle.value.specs.declared.Pair.TheVariants as P
 use Rattle.value.specs.Answer.{value, unary, binary, stage_of}
 use Rattle.value.specs.Pattern.{pick, nan_pattern, kept_of}
 use Rattle.value.specs.Scalar.{type_of, finite_of, bits_of, kept_scalar, scalar_at, scalar_of}
@@ -36,7 +34,7 @@ use Rattle.arithmetic.specs.Arithmetic.{neg_of, add_of, sub_of, mul_of, div_of, 
 use Rattle.arithmetic.proofs.Negated.{half_reads}
 use Rattle.bitwise.specs.Bits.{bit_not_of, bit_or_of, bit_and_of, bit_xor_of}
 use Rattle.bitwise.specs.Shift.{shl_of, shr_of}
-use Rattle.scalar.specs.Step.{stepped, unary_of, on_scalar, unary_step_of, binaries, binary_of, shift_of, operator_of, step_of, converted, on_found, conv_of}
+use Rattle.scalar.specs.Step.{stepped, unary_of, on_scalar, unary_step_of, binaries, binary_of, shift_of, operator_of, step_of, converted, conv_of}
 use Rattle.scalar.proofs.Promises.{entry, convert_typed}
 use Rattle.scalar.proofs.Reread.{truth}
 
@@ -55,25 +53,25 @@ unary_named s = refl
 
 -- ---- patterns read back
 -- the pattern of a scalar that its type holds is read as that scalar, a NaN as it is kept
-pub scalar_back : (s : Scalar) → Sound s → scalar_of (type_of s) (bits_of s) ≡ Value (kept_scalar s)
-scalar_back s h = sym (picked (scalar_at (type_of s) (bits_of s)) Nothing (bits_proper s h)) ∙ at s h
+pub scalar_back : (s : Scalar) → Sound s → scalar_of (type_of s) (bits_of s) ≡ Some (kept_scalar s)
+scalar_back s h = sym (picked (scalar_at (type_of s) (bits_of s)) None (bits_proper s h)) ∙ at s h
   where
-    at : (s : Scalar) → Sound s → scalar_at (type_of s) (bits_of s) ≡ Value (kept_scalar s)
-    at (bool x) h = ap (λ (t : Bool). Value (bool t)) (truth x)
-    at (AbstractInt x) h = ap (λ (z : ℤ). Value (AbstractInt z)) (to_z-of_z w64 x h)
-    at (AbstractFloat x) h = ap (λ (x : Float). Value (AbstractFloat x)) (bits_back binary64 x h)
-    at (I32 x) h = ap (λ (z : ℤ). Value (I32 z)) (to_z-of_z w32 x h)
+    at : (s : Scalar) → Sound s → scalar_at (type_of s) (bits_of s) ≡ Some (kept_scalar s)
+    at (bool x) h = ap (λ (t : Bool). Some (bool t)) (truth x)
+    at (AbstractInt x) h = ap (λ (z : ℤ). Some (AbstractInt z)) (to_z-of_z w64 x h)
+    at (AbstractFloat x) h = ap (λ (x : Float). Some (AbstractFloat x)) (bits_back binary64 x h)
+    at (I32 x) h = ap (λ (z : ℤ). Some (I32 z)) (to_z-of_z w32 x h)
     at (U32 n) h = refl
-    at (F32 x) h = ap (λ (x : Float). Value (F32 x)) (bits_back binary32 x h)
-    at (F16 b) h = ap (λ (n : ℕ). Value (F16 n)) (kept_once 6 b)
+    at (F32 x) h = ap (λ (x : Float). Some (F32 x)) (bits_back binary32 x h)
+    at (F16 b) h = ap (λ (n : ℕ). Some (F16 n)) (kept_once 6 b)
 
 -- ---- conversions
 -- a scalar that is there has its NaN kept
-abbrev KeptFound : Found → Type 0
-KeptFound (Value u) = kept_scalar u ≡ u
-KeptFound Nothing = Unit {0}
+abbrev KeptFound : Option Scalar → Type 0
+KeptFound (Some u) = kept_scalar u ≡ u
+KeptFound None = Unit {0}
 
-found_kept : (t : Bool) (s : Scalar) → (t ≡ true → kept_scalar s ≡ s) → KeptFound (pick t (Value s) Nothing)
+found_kept : (t : Bool) (s : Scalar) → (t ≡ true → kept_scalar s ≡ s) → KeptFound (pick t (Some s) None)
 found_kept true s h = h refl
 found_kept false s h = tt
 
@@ -86,7 +84,7 @@ finite_kept b h = go (nan_pattern half b) refl
     go true e = absurd (true≢false (sym h ∙ ap finite (half_reads b (ltb-true 31744 _ e))))
     go false e = refl
 
-half_found : (b : ℕ) → KeptFound (pick (finite_of (F16 b)) (Value (F16 b)) Nothing)
+half_found : (b : ℕ) → KeptFound (pick (finite_of (F16 b)) (Some (F16 b)) None)
 half_found b = found_kept (finite_of (F16 b)) (F16 b) (λ e. ap F16 (finite_kept b e))
 
 kept_twice : (s : Scalar) → kept_scalar (kept_scalar s) ≡ kept_scalar s
@@ -100,12 +98,12 @@ stands_kept to s = found_kept (eqb (type_of s) to) (kept_scalar s) (λ e. kept_t
 pub conversion_kept : (to : ℕ) (s : Scalar) → KeptFound (convert_to to s)
 conversion_kept to (bool x) = stands_kept to (bool x)
 conversion_kept to (AbstractInt x) =
-    entry (λ i f. KeptFound f) (Nothing ∷ targets x) Nothing (λ i. tt) tt refl
+    entry (λ i f. KeptFound f) (None ∷ targets x) None (λ i. tt) tt refl
     (found_kept (finite (of_integer double x)) (AbstractFloat (of_integer double x)) (λ e. refl))
     (found_kept (in_signed w32 x) (I32 x) (λ e. refl)) (found_kept (in_natural w32 x) (U32 (nat_abs x)) (λ e. refl))
     (found_kept (finite (of_integer single x)) (F32 (of_integer single x)) (λ e. refl)) (half_found (to_bits half (of_integer half x))) to
 conversion_kept to (AbstractFloat x) =
-    entry (λ i f. KeptFound f) (Nothing ∷ Nothing ∷ Value (AbstractFloat x) ∷ Nothing ∷ Nothing ∷ float_to_f32 x ∷ float_to_f16 x ∷ []) Nothing (λ i. tt)
+    entry (λ i f. KeptFound f) (None ∷ None ∷ Some (AbstractFloat x) ∷ None ∷ None ∷ float_to_f32 x ∷ float_to_f16 x ∷ []) None (λ i. tt)
     tt tt refl tt tt (found_kept (finite (convert single x)) (F32 (convert single x)) (λ e. refl)) (half_found (to_bits half (convert half x))) to
 conversion_kept to (I32 x) = stands_kept to (I32 x)
 conversion_kept to (U32 x) = stands_kept to (U32 x)
@@ -122,43 +120,43 @@ kept_before to s =
       | I32 x ↦ refl
       | U32 x ↦ refl
       | F32 x ↦ refl
-      | F16 x ↦ ap (λ (n : ℕ). pick (eqb 6 to) (Value (F16 n)) Nothing) (kept_once 6 x)
+      | F16 x ↦ ap (λ (n : ℕ). pick (eqb 6 to) (Some (F16 n)) None) (kept_once 6 x)
     ]
 
 -- a scalar's pattern converts as the scalar does
 pub conversion_back : (to : ℕ) (s : Scalar) → Sound s → conv_of (type_of s) to (bits_of s) ≡ converted (convert_to to s)
 unfolding conv_of
-conversion_back to s h = ap (λ (f : Found). on_found f (λ s. converted (convert_to to s))) (scalar_back s h) ∙ ap converted (kept_before to s)
+conversion_back to s h = ap (λ (f : Option Scalar). option_and_then (λ s. converted (convert_to to s)) f) (scalar_back s h) ∙ ap converted (kept_before to s)
 
 -- and the converted scalar's pattern is read as it
-pub target_back : (to : ℕ) (s u : Scalar) → Sound s → convert_to to s ≡ Value u → scalar_of to (bits_of u) ≡ Value u
+pub target_back : (to : ℕ) (s u : Scalar) → Sound s → convert_to to s ≡ Some u → scalar_of to (bits_of u) ≡ Some u
 target_back to s u h e =
-    let k : OfType to (Value u) = subst (OfType to) e (convert_typed to s h) in
-    let q : KeptFound (Value u) = subst KeptFound e (conversion_kept to s) in
-    subst (λ (t : ℕ). scalar_of t (bits_of u) ≡ Value u) k.0 (scalar_back u k.1 ∙ ap Value q)
+    let k : OfType to (Some u) = subst (OfType to) e (convert_typed to s h) in
+    let q : KeptFound (Some u) = subst KeptFound e (conversion_kept to s) in
+    subst (λ (t : ℕ). scalar_of t (bits_of u) ≡ Some u) k.0 (scalar_back u k.1 ∙ ap Some q)
 
 -- the own type: the scalar stands, its NaN kept
-pub own_type : (s : Scalar) → convert_to (type_of s) s ≡ Value (kept_scalar s)
-own_type s = elim s as (λ s. convert_to (type_of s) s ≡ Value (kept_scalar s)) [ bool x ↦ refl | AbstractInt x ↦ refl | AbstractFloat x ↦ refl | I32 x ↦ refl | U32 x ↦ refl | F32 x ↦ refl | F16 x ↦ refl ]
+pub own_type : (s : Scalar) → convert_to (type_of s) s ≡ Some (kept_scalar s)
+own_type s = elim s as (λ s. convert_to (type_of s) s ≡ Some (kept_scalar s)) [ bool x ↦ refl | AbstractInt x ↦ refl | AbstractFloat x ↦ refl | I32 x ↦ refl | U32 x ↦ refl | F32 x ↦ refl | F16 x ↦ refl ]
 
 -- ---- steps
-module _ (op stage ty : ℕ) (u v : Scalar) (p : scalar_of ty (bits_of u) ≡ Value u) where
-  pub step_pair : leb 17 op ≡ false → scalar_of ty (bits_of v) ≡ Value v → step_of op stage ty (bits_of u) (bits_of v) ≡ stepped (binary_of op (stage_of stage) (pair_of u v))
+module _ (op stage ty : ℕ) (u v : Scalar) (p : scalar_of ty (bits_of u) ≡ Some u) where
+  pub step_pair : leb 17 op ≡ false → scalar_of ty (bits_of v) ≡ Some v → step_of op stage ty (bits_of u) (bits_of v) ≡ stepped (binary_of op (stage_of stage) (pair_of u v))
   unfolding step_of
   step_pair t q = sym (passed _ _ t) ∙ (λ i. stepped (binary_of op (stage_of stage) (both_of (p i) (q i))))
 
-  pub step_shift : leb 17 op ≡ true → scalar_of 4 (bits_of v) ≡ Value v
-      → step_of op stage ty (bits_of u) (bits_of v) ≡ stepped (shift_of op (stage_of stage) (Value u) (Value v))
+  pub step_shift : leb 17 op ≡ true → scalar_of 4 (bits_of v) ≡ Some v
+      → step_of op stage ty (bits_of u) (bits_of v) ≡ stepped (shift_of op (stage_of stage) (Some u) (Some v))
   unfolding step_of
   step_shift t q = sym (picked _ _ t) ∙ (λ i. stepped (shift_of op (stage_of stage) (p i) (q i)))
 
 -- operands with no common type
-pub none_binary : (op : ℕ) (stage : ShaderStage) → binary_of op stage P.None ≡ binary
+pub none_binary : (op : ℕ) (stage : ShaderStage) → binary_of op stage None ≡ binary
 none_binary op stage =
-    entry (λ i r. r ≡ binary) (binary ∷ binaries stage P.None) binary (λ i. refl) refl refl refl refl refl refl refl refl refl refl refl refl refl refl refl refl refl op
+    entry (λ i r. r ≡ binary) (binary ∷ binaries stage None) binary (λ i. refl) refl refl refl refl refl refl refl refl refl refl refl refl refl refl refl refl refl op
 
 -- a count that has no conversion; a left operand whose NaN is kept
-pub no_count : (op : ℕ) (stage : ShaderStage) (s : Scalar) → shift_of op stage (Value s) Nothing ≡ binary
+pub no_count : (op : ℕ) (stage : ShaderStage) (s : Scalar) → shift_of op stage (Some s) None ≡ binary
 no_count op stage s = go (eqb op 17) (eqb op 18)
   where
     go : (a b : Bool) → pick a binary (pick b binary binary) ≡ binary
@@ -166,25 +164,25 @@ no_count op stage s = go (eqb op 17) (eqb op 18)
     go false true = refl
     go false false = refl
 
-pub shift_kept_left : (op : ℕ) (stage : ShaderStage) (s : Scalar) (count : Found) → shift_of op stage (Value (kept_scalar s)) count ≡ shift_of op stage (Value s) count
+pub shift_kept_left : (op : ℕ) (stage : ShaderStage) (s : Scalar) (count : Option Scalar) → shift_of op stage (Some (kept_scalar s)) count ≡ shift_of op stage (Some s) count
 shift_kept_left op stage s count =
-    elim s as (λ s. shift_of op stage (Value (kept_scalar s)) count ≡ shift_of op stage (Value s) count) [ bool x ↦ refl | AbstractInt x ↦ refl | AbstractFloat x ↦ refl | I32 x ↦ refl | U32 x ↦ refl | F32 x ↦ refl | F16 x ↦ refl ]
+    elim s as (λ s. shift_of op stage (Some (kept_scalar s)) count ≡ shift_of op stage (Some s) count) [ bool x ↦ refl | AbstractInt x ↦ refl | AbstractFloat x ↦ refl | I32 x ↦ refl | U32 x ↦ refl | F32 x ↦ refl | F16 x ↦ refl ]
 
 -- a type that is neither the own nor one that the own goes to: what `goes_to` says of types, conversions do to values
 first_off : (a b : Bool) → (a || b) ≡ false → a ≡ false
 first_off true b e = e
 first_off false b e = refl
 
-stood : (ty : ℕ) (s : Scalar) → (eqb (type_of s) ty || goes_to (type_of s) ty) ≡ false → stands ty s ≡ Nothing
+stood : (ty : ℕ) (s : Scalar) → (eqb (type_of s) ty || goes_to (type_of s) ty) ≡ false → stands ty s ≡ None
 stood ty s e = sym (passed _ _ (first_off (eqb (type_of s) ty) (goes_to (type_of s) ty) e))
 
-pub no_conversion : (ty : ℕ) (s : Scalar) → (eqb (type_of s) ty || goes_to (type_of s) ty) ≡ false → convert_to ty s ≡ Nothing
+pub no_conversion : (ty : ℕ) (s : Scalar) → (eqb (type_of s) ty || goes_to (type_of s) ty) ≡ false → convert_to ty s ≡ None
 no_conversion ty (bool x) e = stood ty (bool x) e
 no_conversion ty (AbstractInt x) e =
-    by_code (λ ty. (eqb 1 ty || goes_to 1 ty) ≡ false → from_int ty x ≡ Nothing) (λ e. refl) (λ e. absurd (true≢false e)) (λ e. absurd (true≢false e))
+    by_code (λ ty. (eqb 1 ty || goes_to 1 ty) ≡ false → from_int ty x ≡ None) (λ e. refl) (λ e. absurd (true≢false e)) (λ e. absurd (true≢false e))
     (λ e. absurd (true≢false e)) (λ e. absurd (true≢false e)) (λ e. absurd (true≢false e)) (λ e. absurd (true≢false e)) (λ n e. refl) ty e
 no_conversion ty (AbstractFloat x) e =
-    by_code (λ ty. (eqb 2 ty || goes_to 2 ty) ≡ false → from_float ty x ≡ Nothing) (λ e. refl) (λ e. refl) (λ e. absurd (true≢false e)) (λ e. refl)
+    by_code (λ ty. (eqb 2 ty || goes_to 2 ty) ≡ false → from_float ty x ≡ None) (λ e. refl) (λ e. refl) (λ e. absurd (true≢false e)) (λ e. refl)
     (λ e. refl) (λ e. absurd (true≢false e)) (λ e. absurd (true≢false e)) (λ n e. refl) ty e
 no_conversion ty (I32 x) e = stood ty (I32 x) e
 no_conversion ty (U32 x) e = stood ty (U32 x) e
@@ -212,13 +210,13 @@ module _ (f : Bool → Bool → Bool) where
   left_part (F32 y) a h = elim a as (λ a. logical f (pair_of (F32 y) a) ≡ binary) [ bool x ↦ refl | AbstractInt x ↦ refl | AbstractFloat x ↦ refl | I32 x ↦ refl | U32 x ↦ refl | F32 x ↦ refl | F16 x ↦ refl ]
   left_part (F16 y) a h = elim a as (λ a. logical f (pair_of (F16 y) a) ≡ binary) [ bool x ↦ refl | AbstractInt x ↦ refl | AbstractFloat x ↦ refl | I32 x ↦ refl | U32 x ↦ refl | F32 x ↦ refl | F16 x ↦ refl ]
 
-  right_found : (a : Found) (s : Scalar) → (type_of s ≡ 0 → ⊥) → logical f (both_of a (Value s)) ≡ binary
-  right_found (Value a) s h = right_part a s h
-  right_found Nothing s h = refl
+  right_found : (a : Option Scalar) (s : Scalar) → (type_of s ≡ 0 → ⊥) → logical f (both_of a (Some s)) ≡ binary
+  right_found (Some a) s h = right_part a s h
+  right_found None s h = refl
 
-  left_found : (s : Scalar) (a : Found) → (type_of s ≡ 0 → ⊥) → logical f (both_of (Value s) a) ≡ binary
-  left_found s (Value a) h = left_part s a h
-  left_found s Nothing h = refl
+  left_found : (s : Scalar) (a : Option Scalar) → (type_of s ≡ 0 → ⊥) → logical f (both_of (Some s) a) ≡ binary
+  left_found s (Some a) h = left_part s a h
+  left_found s None h = refl
 
   pub logical_common : (l r : Scalar) → logical f (common_of l r) ≡ logical f (pair_of l r)
   unfolding common_type common_of
@@ -294,7 +292,7 @@ operator_common op stage l r t = sym (passed _ _ t) ∙ go op
     go (suc (suc zero)) = sym (logical_common ◌&&◌ l r)
     go (suc (suc (suc n))) = ap (λ (t : Bool). binary_of (suc (suc (suc n))) stage (pick t (pair_of l r) (common_of l r))) (lt-leb (suc (suc (suc n))) 2 (omega arith))
 
-pub operator_shift : (op : ℕ) (stage : ShaderStage) (l r : Scalar) → leb 17 op ≡ true → operator_of op stage l r ≡ shift_of op stage (Value l) (convert_to 4 r)
+pub operator_shift : (op : ℕ) (stage : ShaderStage) (l r : Scalar) → leb 17 op ≡ true → operator_of op stage l r ≡ shift_of op stage (Some l) (convert_to 4 r)
 operator_shift op stage l r t = sym (picked _ _ t)
 
 -- ---- unary operators
@@ -322,4 +320,4 @@ unary_kept_same op s =
 -- a unary step on a scalar's pattern answers what the operator answers on the scalar
 pub unary_back : (op : ℕ) (s : Scalar) → Sound s → unary_step_of op (type_of s) (bits_of s) ≡ stepped (unary_of op s)
 unfolding unary_step_of
-unary_back op s h = ap (λ (f : Found). stepped (on_scalar f (unary_of op) unary)) (scalar_back s h) ∙ ap stepped (unary_kept_same op s)
+unary_back op s h = ap (λ (f : Option Scalar). stepped (on_scalar f (unary_of op) unary)) (scalar_back s h) ∙ ap stepped (unary_kept_same op s)

@@ -7,12 +7,11 @@ use mathlib.Core.Logic.{◌⊎◌, inl, inr}
 use native.Mathlib.Omega.{arith}
 use lib.Dec.{leb}
 use borrow.Author.Tests.{leb-true}
+use Rattle.std.specs.Prelude.{Option, Some, None, Ok, Err}
 use Rattle.types.specs.Types.{right_of, unary_right_of}
 use Rattle.value.specs.declared.Scalar.{Scalar}
 use Rattle.value.specs.declared.Scalar.TheVariants.{Bool as bool, AbstractInt, AbstractFloat, I32, U32, F32, F16}
 use Rattle.value.specs.declared.ShaderStage.{ShaderStage}
-use Rattle.value.specs.declared.Found.{Found}
-use Rattle.value.specs.declared.Found.TheVariants.{Value, Nothing}
 use Rattle.value.specs.declared.Pair.{Pair}
 use Rattle.value.specs.declared.Pair.TheVariants as P
 use Rattle.value.specs.Answer.{Result, refusal, unary, binary, stage_of, strict}
@@ -26,16 +25,14 @@ use Rattle.relation.specs.Comparison.{eq_of, ne_of, lt_of, le_of, gt_of, ge_of}
 use Rattle.arithmetic.specs.Arithmetic.{neg_of, add_of, sub_of, mul_of, div_of, rem_of}
 use Rattle.bitwise.specs.Bits.{bit_not_of, bit_or_of, bit_and_of, bit_xor_of}
 use Rattle.bitwise.specs.Shift.{by_count, shl_of, shr_of}
-use Rattle.scalar.specs.declared.Step.{Step}
-use Rattle.scalar.specs.declared.Step.TheVariants as S
-use Rattle.scalar.specs.Step.{stepped, unaries, unary_of, on_scalar, unary_step_of, binaries, binary_of, shift_of, step_of}
+use Rattle.scalar.specs.Step.{Step, stepped, unaries, unary_of, on_scalar, unary_step_of, binaries, binary_of, shift_of, step_of}
 use Rattle.scalar.proofs.Codes.{from, no_shift}
 use Rattle.scalar.proofs.Promises.{entry}
 
 -- ---- unary operators: a step refuses without the right, and only so, and then with 1
 abbrev pub Righted : Bool → Step → Type 0
-Righted right (S.Bits t b) = right ≡ true
-Righted right (S.Refused r) = r ≡ refusal No.Unary 0
+Righted right (Ok (t, b)) = right ≡ true
+Righted right (Err r) = r ≡ refusal No.Unary 0
 
 abbrev Rights : ℕ → (Scalar → Result) → Type 0
 Rights op f = (s : Scalar) → Righted (unary_right_of op (type_of s)) (stepped (f s))
@@ -53,40 +50,40 @@ pub unary_righted : (op ty v : ℕ) → Righted (unary_right_of op ty) (unary_st
 unfolding unary_step_of
 unary_righted op ty v = go (scalar_of ty v) (of_type ty v)
   where
-    go : (f : Found) → OfType ty f → Righted (unary_right_of op ty) (stepped (on_scalar f (unary_of op) unary))
-    go (Value s) h =
+    go : (f : Option Scalar) → OfType ty f → Righted (unary_right_of op ty) (stepped (on_scalar f (unary_of op) unary))
+    go (Some s) h =
         subst (λ (t : ℕ). Righted (unary_right_of op t) (stepped (unary_of op s))) h.0
         (entry (λ i r. Righted (unary_right_of i (type_of s)) (stepped r)) (unary ∷ unaries s) unary (λ i. refl)
         refl (not_righted s) (neg_righted s) (bitnot_righted s) op)
-    go Nothing h = refl
+    go None h = refl
 
 -- ---- binary operators: without the right the operator itself answers Binary
 abbrev Lacks : ℕ → ℕ → Result → Type 0
 Lacks op ty r = right_of op ty ≡ false → r ≡ binary
 
 -- the type of a code has the right, or every pair of it is refused
-abbrev Arm : ℕ → (Pair → Result) → ℕ → {X : Type 0} → (X → X → Pair) → Type 0
-Arm op f code {X} pair = (right_of op code ≡ true) ⊎ ((x y : X) → f (pair x y) ≡ binary)
+abbrev Arm : ℕ → (Option Pair → Result) → ℕ → {X : Type 0} → (X → X → Pair) → Type 0
+Arm op f code {X} pair = (right_of op code ≡ true) ⊎ ((x y : X) → f (Some (pair x y)) ≡ binary)
 
-arm : (op : ℕ) (f : Pair → Result) (code : ℕ) {X : Type 0} (pair : X → X → Pair) {ty : ℕ} → ty ≡ code → Arm op f code pair → (x y : X) → Lacks op ty (f (pair x y))
+arm : (op : ℕ) (f : Option Pair → Result) (code : ℕ) {X : Type 0} (pair : X → X → Pair) {ty : ℕ} → ty ≡ code → Arm op f code pair → (x y : X) → Lacks op ty (f (Some (pair x y)))
 arm op f code pair e (inl h) x y q = absurd (true≢false (sym h ∙ ap (right_of op) (sym e) ∙ q))
 arm op f code pair e (inr h) x y q = h x y
 
 -- by the type of a pair
-module _ (op : ℕ) (f : Pair → Result) where
+module _ (op : ℕ) (f : Option Pair → Result) where
   each_type : Arm op f 0 P.Bool → Arm op f 1 P.AbstractInt → Arm op f 2 P.AbstractFloat → Arm op f 3 P.I32 → Arm op f 4 P.U32 → Arm op f 5 P.F32
-      → Arm op f 6 P.F16 → f P.None ≡ binary → (ty : ℕ) (p : Pair) → Couple ty p → Lacks op ty (f p)
-  each_type b w d i u s h n ty (P.Bool x y) e = arm op f 0 P.Bool e b x y
-  each_type b w d i u s h n ty (P.AbstractInt x y) e = arm op f 1 P.AbstractInt e.0 w x y
-  each_type b w d i u s h n ty (P.AbstractFloat x y) e = arm op f 2 P.AbstractFloat e.0 d x y
-  each_type b w d i u s h n ty (P.I32 x y) e = arm op f 3 P.I32 e.0 i x y
-  each_type b w d i u s h n ty (P.U32 x y) e = arm op f 4 P.U32 e.0 u x y
-  each_type b w d i u s h n ty (P.F32 x y) e = arm op f 5 P.F32 e.0 s x y
-  each_type b w d i u s h n ty (P.F16 x y) e = arm op f 6 P.F16 e.0 h x y
-  each_type b w d i u s h n ty P.None e = λ q. n
+      → Arm op f 6 P.F16 → f None ≡ binary → (ty : ℕ) (p : Option Pair) → Couple ty p → Lacks op ty (f p)
+  each_type b w d i u s h n ty (Some (P.Bool x y)) e = arm op f 0 P.Bool e b x y
+  each_type b w d i u s h n ty (Some (P.AbstractInt x y)) e = arm op f 1 P.AbstractInt e.0 w x y
+  each_type b w d i u s h n ty (Some (P.AbstractFloat x y)) e = arm op f 2 P.AbstractFloat e.0 d x y
+  each_type b w d i u s h n ty (Some (P.I32 x y)) e = arm op f 3 P.I32 e.0 i x y
+  each_type b w d i u s h n ty (Some (P.U32 x y)) e = arm op f 4 P.U32 e.0 u x y
+  each_type b w d i u s h n ty (Some (P.F32 x y)) e = arm op f 5 P.F32 e.0 s x y
+  each_type b w d i u s h n ty (Some (P.F16 x y)) e = arm op f 6 P.F16 e.0 h x y
+  each_type b w d i u s h n ty None e = λ q. n
 
 -- operators by their codes: `|| &&` Bool has alone, `+ - * / % < <= > >=` all but Bool, `== !=` all, `| &` Bool and integers, `^` integers
-binary_lacks : (op : ℕ) (stage : ShaderStage) (ty : ℕ) (p : Pair) → Couple ty p → Lacks op ty (binary_of op stage p)
+binary_lacks : (op : ℕ) (stage : ShaderStage) (ty : ℕ) (p : Option Pair) → Couple ty p → Lacks op ty (binary_of op stage p)
 binary_lacks op stage ty p c =
     entry (λ i r. Lacks i ty r) (binary ∷ binaries stage p) binary (λ i q. refl) (λ q. refl)
     (each_type 1 or_of (inl refl) (inr (λ x y. refl)) (inr (λ x y. refl)) (inr (λ x y. refl)) (inr (λ x y. refl)) (inr (λ x y. refl)) (inr (λ x y. refl)) refl ty p c)
@@ -109,10 +106,10 @@ binary_lacks op stage ty p c =
 
 -- ---- shifts
 -- of what is no integer, by any count
-uncounted : (stage : ShaderStage) (count : Found) → by_count count (λ n. pick (strict stage) binary binary) ≡ binary
-uncounted stage Nothing = refl
-uncounted stage (Value s) =
-    elim s as (λ s. by_count (Value s) (λ n. pick (strict stage) binary binary) ≡ binary) [ bool x ↦ refl | AbstractInt x ↦ refl | AbstractFloat x ↦ refl | I32 x ↦ refl | U32 n ↦ same (strict stage) | F32 x ↦ refl | F16 x ↦ refl ]
+uncounted : (stage : ShaderStage) (count : Option Scalar) → by_count count (λ n. pick (strict stage) binary binary) ≡ binary
+uncounted stage None = refl
+uncounted stage (Some s) =
+    elim s as (λ s. by_count (Some s) (λ n. pick (strict stage) binary binary) ≡ binary) [ bool x ↦ refl | AbstractInt x ↦ refl | AbstractFloat x ↦ refl | I32 x ↦ refl | U32 n ↦ same (strict stage) | F32 x ↦ refl | F16 x ↦ refl ]
   where
     same : (t : Bool) → pick t binary binary ≡ binary
     same true = refl
@@ -134,9 +131,9 @@ module _ (op : ℕ) (f : Scalar → Result) where
         | F16 x ↦ λ q. o x
       ]
 
-shift_lacks : (op : ℕ) (stage : ShaderStage) (ty : ℕ) (l count : Found) → OfType ty l → leb 17 op ≡ true → Lacks op ty (shift_of op stage l count)
-shift_lacks op stage ty Nothing count h t = λ q. refl
-shift_lacks op stage ty (Value s) count h t =
+shift_lacks : (op : ℕ) (stage : ShaderStage) (ty : ℕ) (l count : Option Scalar) → OfType ty l → leb 17 op ≡ true → Lacks op ty (shift_of op stage l count)
+shift_lacks op stage ty None count h t = λ q. refl
+shift_lacks op stage ty (Some s) count h t =
     from 17 op (leb-true 17 op t)
     (λ e. rw (e, ← h.0) (each_scalar 17 (λ s. shl_of stage s count) refl refl refl (λ x. none) (λ x. none) (λ x. none) (λ x. none) s))
     (λ k. from 18 op k
@@ -146,13 +143,13 @@ shift_lacks op stage ty (Value s) count h t =
     none : by_count count (λ n. pick (strict stage) binary binary) ≡ binary
     none = uncounted stage count
 
-pub rightless : (op stage ty l r : ℕ) → right_of op ty ≡ false → step_of op stage ty l r ≡ S.Refused (refusal No.Binary 0)
+pub rightless : (op stage ty l r : ℕ) → right_of op ty ≡ false → step_of op stage ty l r ≡ Err (refusal No.Binary 0)
 unfolding step_of
 rightless op stage ty l r q = go (leb 17 op) refl
   where
     go : (t : Bool) → leb 17 op ≡ t
         → pick t (stepped (shift_of op (stage_of stage) (scalar_of ty l) (scalar_of 4 r))) (stepped (binary_of op (stage_of stage) (both_of (scalar_of ty l) (scalar_of ty r))))
-        ≡ S.Refused (refusal No.Binary 0)
+        ≡ Err (refusal No.Binary 0)
     go true t = ap stepped (shift_lacks op (stage_of stage) ty (scalar_of ty l) (scalar_of 4 r) (of_type ty l) t q)
     go false t =
         ap stepped (binary_lacks op (stage_of stage) ty (both_of (scalar_of ty l) (scalar_of ty r)) (couple ty (scalar_of ty l) (scalar_of ty r) (of_type ty l) (of_type ty r)) q)

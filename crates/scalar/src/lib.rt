@@ -10,32 +10,21 @@ ghost use Rattle.scalar.specs.Step.{binary_of, conv_of, on_scalar, product_added
 use bitwise::{bits, shifts};
 use conversion::convert;
 use relation::{comparison, logical};
-use value::{Answer, Found, Pair, Refusal, ShaderStage, pattern, said, stage_of};
+use value::{Answer, OperatorError, Pair, Refusal, Scalar, ShaderStage, pattern, said, stage_of};
 
 // One operation: the result's type and bits, or a refusal.
-#[derive(Clone, Copy)]
-pub enum Step {
-    Bits(u8, u64),
-    Refused(Refusal),
-}
+pub type Step = Result<(u8, u64), Refusal>;
 
-// One conversion: the bits, if it has any.
-#[derive(Clone, Copy)]
-pub enum Conv {
-    Bits(u64),
-    Nothing,
-}
-
-// A refusal as a step.
-fn refuse(number: u8, detail: u32) -> Step
-    ensures { result ≡ Step.Refused (refusal number detail) }
+// A refusal without a detail and an operand.
+pub fn refusal(number: u8) -> Refusal
+    ensures { result ≡ refusal number 0 }
 {
-    Step::Refused(Refusal {
+    Refusal {
         number,
-        detail,
+        detail: 0,
         ty: 0,
         bits: 0,
-    })
+    }
 }
 
 // An answer as a step. Type and bits are asked for in one place, which keeps this small enough to be part of its callers.
@@ -45,20 +34,19 @@ fn step_of(a: Answer) -> Step
     let s = said::scalar_in(a);
     let ty = value::type_of(s);
     let bits = pattern::bits_of(s);
-    let number = said::number(a);
-    if number == 0 {
-        return Step::Bits(ty, bits);
+    match a {
+        Ok(_) => Ok((ty, bits)),
+        Err(e) => Err(Refusal {
+            number: e.number(),
+            detail: e.detail(),
+            ty,
+            bits,
+        }),
     }
-    Step::Refused(Refusal {
-        number,
-        detail: said::detail(a),
-        ty,
-        bits,
-    })
 }
 
 // A binary operator but a shift, by its code, on two operands of one type. Arithmetic, which is asked for most, is tested for first.
-fn binary_op(op: u8, stage: ShaderStage, p: Pair) -> Answer
+fn binary_op(op: u8, stage: ShaderStage, p: Option<Pair>) -> Answer
     ensures { answer_of result ≡ binary_of op stage p }
 {
     if (3 <= op) & (op <= 7) {
@@ -67,37 +55,37 @@ fn binary_op(op: u8, stage: ShaderStage, p: Pair) -> Answer
     match op {
         1 => logical::or_pair(p),
         2 => logical::and_pair(p),
-        8 | 9 | 10 | 11 | 12 | 13 => comparison::compare(op, p),
-        14 | 15 | 16 => bits::bits_pair(op, p),
-        _ => Answer::Binary,
+        8..=13 => comparison::compare(op, p),
+        14..=16 => bits::bits_pair(op, p),
+        _ => Err(OperatorError::Binary),
     }
 }
 
-// A shift, by its code.
-fn shift_op(op: u8, stage: ShaderStage, l: Found, count: Found) -> Answer
+// A shift, by its code. With `ok_or` and `?` in the place of the `let else` a shift takes longer.
+fn shift_op(op: u8, stage: ShaderStage, l: Option<Scalar>, count: Option<Scalar>) -> Answer
     ensures { answer_of result ≡ shift_of op stage l count }
 {
-    let Found::Value(s) = l else {
-        return Answer::Binary;
+    let Some(s) = l else {
+        return Err(OperatorError::Binary);
     };
     match op {
         17 | 18 => shifts::shift(op == 18, stage, s, count),
-        _ => Answer::Binary,
+        _ => Err(OperatorError::Binary),
     }
 }
 
 // A unary operator, by its code.
-fn unary_op(op: u8, v: Found) -> Answer
+fn unary_op(op: u8, v: Option<Scalar>) -> Answer
     ensures { answer_of result ≡ on_scalar v (unary_of op) unary }
 {
-    let Found::Value(s) = v else {
-        return Answer::Unary;
+    let Some(s) = v else {
+        return Err(OperatorError::Unary);
     };
     match op {
         1 => logical::op_not(s),
         2 => arithmetic::op_neg(s),
         3 => bits::op_bitnot(s),
-        _ => Answer::Unary,
+        _ => Err(OperatorError::Unary),
     }
 }
 
@@ -114,14 +102,15 @@ pub fn binary_step(op: u8, stage: u8, ty: u8, l: u64, r: u64) -> Step
 }
 
 // The product of two patterns of one type, by a kernel where the type has one: the same as the step of code 5.
+// In F64 every stage asks for finite results; in F32 Const and Override do, the codes below 2.
 pub fn product(stage: u8, ty: u8, l: u64, r: u64) -> Step
     ensures { result ≡ step_of 5 stage ty l r }
 {
     if ty == 2 {
-        return products::f64_times(stage, l, r);
+        return products::float_times::<f64>(true, 2, l, r);
     }
     if (ty == 5) & (l < 0x1_0000_0000) & (r < 0x1_0000_0000) {
-        return products::f32_times(stage, l as u32, r as u32);
+        return products::float_times::<f32>(stage < 2, 5, l, r);
     }
     if (ty == 6) & (l < 0x1_0000) & (r < 0x1_0000) {
         return products::half_times(stage, l as u16, r as u16);
@@ -134,10 +123,10 @@ pub fn add_product(stage: u8, ty: u8, sum: u64, l: u64, r: u64) -> Step
     ensures { result ≡ product_added stage ty sum l r }
 {
     if ty == 2 {
-        return products::f64_product(stage, sum, l, r);
+        return products::float_product::<f64>(true, 2, sum, l, r);
     }
     if (ty == 5) & (sum < 0x1_0000_0000) & (l < 0x1_0000_0000) & (r < 0x1_0000_0000) {
-        return products::f32_product(stage, sum as u32, l as u32, r as u32);
+        return products::float_product::<f32>(stage < 2, 5, sum, l, r);
     }
     if (ty == 6) & (sum < 0x1_0000) & (l < 0x1_0000) & (r < 0x1_0000) {
         return products::half_product(stage, sum as u16, l as u16, r as u16);
@@ -152,15 +141,11 @@ pub fn unary_step(op: u8, ty: u8, v: u64) -> Step
     step_of(unary_op(op, pattern::scalar_of(ty, v)))
 }
 
-// A pattern of one type as one of another.
-pub fn convert_step(from: u8, to: u8, bits: u64) -> Conv
+// A pattern of one type as one of another, if it has one.
+pub fn convert_step(from: u8, to: u8, bits: u64) -> Option<u64>
     ensures { result ≡ conv_of from to bits }
 {
-    let Found::Value(s) = pattern::scalar_of(from, bits) else {
-        return Conv::Nothing;
-    };
-    let Found::Value(t) = convert::convert(to, s) else {
-        return Conv::Nothing;
-    };
-    Conv::Bits(pattern::bits_of(t))
+    let s = pattern::scalar_of(from, bits)?;
+    let t = convert::convert(to, s)?;
+    Some(pattern::bits_of(t))
 }

@@ -1,24 +1,23 @@
 -- Scalars: what an operator gives on them by components is one step on their converted patterns. Assumes nothing.
 use mathlib.Core.Path.{◌≡◌, refl, sym, ap, subst, ◌∙◌}
-use mathlib.Core.Bool.{Bool, true, false, not, ◌&&◌}
+use mathlib.Core.Bool.{Bool, true, false, not, ◌&&◌, false≢true}
 use mathlib.Core.List.{List, ◌∷◌}
 use Prim.Native.Nat.{ℕ}
 use lib.Dec.{eqb}
 use lib.ListN.{get_or, replicate}
 use borrow.Author.Tests.{eqb-true}
-use Rattle.scalar.specs.declared.Conv.{Conv}
-use Rattle.scalar.specs.declared.Conv.TheVariants as C
+use native.Mathlib.Omega.{arith}
+use Rattle.std.specs.Prelude.{Option, Some, None, Result, Ok, Err, ⊤, ok_or, MatchResult, IsErrAnd}
 use Rattle.value.specs.declared.Refusal.{Refusal}
-use Rattle.scalar.specs.declared.Step.{Step}
-use Rattle.scalar.specs.declared.Step.TheVariants as S
 use Rattle.value.specs.Pattern.{pick, proper_of}
-use Rattle.scalar.specs.Step.{refusal, step_of, unary_step_of, conv_of}
+use Rattle.scalar.specs.Step.{Step, refusal, step_of, unary_step_of, conv_of}
+use Rattle.scalar.proofs.Promises.{Stepped, step_answers, unary_answers}
 use Rattle.scalar.proofs.Rights.{Righted, unary_righted, rightless}
 use Rattle.types.specs.Types.{right_of, unary_right_of, result_type}
 use Rattle.value.specs.Refusals as No
 use Rattle.operand.specs.Operand.{shape_ok, shape_of, is_scalar, is_matrix, component_count, every, component_at, operand_formed, a_scalar}
 use Rattle.low.specs.Bytes.{up_to}
-use Rattle.components.specs.Components.{Out, got, stop, all_or_refusal, each_component, step_result, conv_result, binary_at, unary_at, lane, converted_at}
+use Rattle.components.specs.Components.{Out, all_or_refusal, each_component, step_result, conv_result, binary_at, unary_at, lane, converted_at}
 use Rattle.pairing.specs.Pairing.{op_known, unary_known, stage_known, inner_ok, same_shape, pair_ok, targets_of}
 use Rattle.operand.specs.Outcome.{refused_with, refused_as}
 use Rattle.dispatch.specs.Meaning.{refuse_unless, on_result, shaped_answer, matrix_product, by_component, on_converted, converted_to, on_targets, judged, unary_judged, unary_meaning, binary_meaning}
@@ -26,43 +25,67 @@ use Rattle.shape.specs.Scalars.{scalar_answer, step_answer, on_scalars}
 use Rattle.operand.specs.declared.Instance.{Instance}
 use Rattle.operand.specs.declared.Outcome.{Outcome}
 use Rattle.operand.specs.declared.Shape.{Shape}
-use Rattle.pairing.specs.declared.Targets.{Targets}
-use Rattle.pairing.specs.declared.Targets.TheVariants as T
 use Rattle.low.proofs.Tests.{both}
 
 -- ---- the tests of the code against the definitions
+-- a refusal that a `?` hands on
+pub handed : {o : Step} {r e : Refusal} {n : ℕ} → o ≡ Err e → e ≡ r → r ≡ refusal n 0 → step_answer o ≡ refused_as (refusal n 0)
+handed h k q = ap step_answer (h ∙ ap Err (k ∙ q))
+
+-- a call's fault, made a refusal of its number
+module _ {s : Result ⊤ Refusal} (Q : ℕ → Refusal → Type 0) where
+  pub fault_err : (r : Result ⊤ ℕ) {y : Refusal} → MatchResult r (λ x. s ≡ Ok x) (λ n. IsErrAnd s (Q n)) → s ≡ Err y → (n : ℕ) × (r ≡ Err n) × Q n y
+  fault_err (Ok x) {y} h e = let z : ◌≡◌ {A = Result ⊤ Refusal} (Ok x) (Err y) = sym h ∙ e in let k : ◌≡◌ {A = ℕ} 0 1 = cc in absurd (omega arith)
+  fault_err (Err n) h e = (n, refl, subst (λ (s : Result ⊤ Refusal). IsErrAnd s (Q n)) e h)
+
+  pub fault_ok : (r : Result ⊤ ℕ) {x : ⊤} → MatchResult r (λ x. s ≡ Ok x) (λ n. IsErrAnd s (Q n)) → s ≡ Ok x → r ≡ Ok tt
+  fault_ok (Ok x) h e = refl
+  fault_ok (Err n) h e = absurd (subst (λ (s : Result ⊤ Refusal). IsErrAnd s (Q n)) e h)
+
+-- a value, or the refusal in its place
+module _ {A : Type 0} {s : Result A Refusal} where
+  pub missing : (o : Option A) (e : Refusal) {r : Refusal} → s ≡ ok_or o e → s ≡ Err r → (o ≡ None) × (r ≡ e)
+  missing None e {r} h k = let z : ◌≡◌ {A = Result A Refusal} (Err e) (Err r) = sym h ∙ k in (refl, cc)
+  missing (Some x) e {r} h k = let z : ◌≡◌ {A = Result A Refusal} (Ok x) (Err r) = sym h ∙ k in let k : ◌≡◌ {A = ℕ} 0 1 = cc in absurd (omega arith)
+
+  pub present : (o : Option A) (e : Refusal) {x : A} → s ≡ ok_or o e → s ≡ Ok x → o ≡ Some x
+  present None e {x} h k = let z : ◌≡◌ {A = Result A Refusal} (Err e) (Ok x) = sym h ∙ k in let k : ◌≡◌ {A = ℕ} 0 1 = cc in absurd (omega arith)
+  present (Some y) e {x} h k = let z : ◌≡◌ {A = Result A Refusal} (Ok y) (Ok x) = sym h ∙ k in cc
+
+-- the types that two scalars convert to: Binary where there are none
+module _ (op stage lt l rt r : ℕ) (t : Option (ℕ × ℕ)) (e : t ≡ targets_of op lt rt) (v : Outcome) where
+  pub no_targets : t ≡ None → v ≡ refused_with No.Binary 0 → v ≡ judged op stage (a_scalar lt l) (a_scalar rt r)
+  unfolding judged
+  no_targets h q = rw (← e, h) q
+
+  pub two_targets : (x y : ℕ) → t ≡ Some (x, y) → v ≡ converted_to x y op stage (a_scalar lt l) (a_scalar rt r) → v ≡ judged op stage (a_scalar lt l) (a_scalar rt r)
+  unfolding judged
+  two_targets x y h q = rw (← e, h) q
+
 -- a conversion that fails is Binary, one with bits goes on
-module _ (c d : Conv) (e : c ≡ d) (v : Outcome) (k : ℕ → Outcome) where
-  pub conv_none : c ≡ C.Nothing → v ≡ refused_with No.Binary 0 → v ≡ on_result (conv_result d) k
+module _ (c d : Option ℕ) (e : c ≡ d) (v : Outcome) (k : ℕ → Outcome) where
+  pub conv_none : c ≡ None → v ≡ refused_with No.Binary 0 → v ≡ on_result (conv_result d) k
   conv_none h q = rw (← e, h) q
 
-  pub conv_bits : (b : ℕ) → c ≡ C.Bits b → v ≡ k b → v ≡ on_result (conv_result d) k
+  pub conv_bits : (b : ℕ) → c ≡ Some b → v ≡ k b → v ≡ on_result (conv_result d) k
   conv_bits b h q = rw (← e, h) q
-
--- a step's refusal is the answer, its bits go on
-module _ (s t : Step) (e : s ≡ t) (k : ℕ → Outcome) where
-  pub step_refused : (r : Refusal) → s ≡ S.Refused r → step_answer s ≡ on_result (step_result t) k
-  step_refused r h = rw (← e, h)
-
-  pub step_bits : (v : Outcome) (y b : ℕ) → s ≡ S.Bits y b → v ≡ k b → v ≡ on_result (step_result t) k
-  step_bits v y b h q = rw (← e, h) q
 
 -- ---- one component in use
 abbrev alone : Out ℕ → Out (List ℕ)
-alone (got b) = got (b ∷ replicate 15 0)
-alone (stop r) = stop r
+alone (Ok b) = Ok (b ∷ replicate 15 0)
+alone (Err r) = Err r
 
 each_one : (f : ℕ → Out ℕ) → each_component f 1 ≡ alone (f 0)
 unfolding up_to all_or_refusal
 each_one f = go (f 0) refl
   where
     go : (o : Out ℕ) → f 0 ≡ o → each_component f 1 ≡ alone o
-    go (got b) e = rw e
-    go (stop r) e = rw e
+    go (Ok b) e = rw e
+    go (Err r) e = rw e
 
 answer_one : (o : Out ℕ) (ty : ℕ) → shaped_answer (alone o) ty 1 1 ≡ on_result o (scalar_answer ty)
-answer_one (got b) ty = refl
-answer_one (stop r) ty = refl
+answer_one (Ok b) ty = refl
+answer_one (Err r) ty = refl
 
 -- ---- one column of one row
 abbrev unit : Shape
@@ -94,13 +117,21 @@ module _ (op stage ty : ℕ) where
       go false = refl
 
   -- a step answers for the right as well: without it, it refuses with Binary
-  pub operated : (p q : ℕ) → on_scalars op stage ty p q ≡ on_result (step_result (step_of op stage ty p q)) (scalar_answer (result_type op ty))
+  operated : (p q : ℕ) → on_scalars op stage ty p q ≡ on_result (step_result (step_of op stage ty p q)) (scalar_answer (result_type op ty))
   operated p q = checks_one _ _ ∙ ap (refuse_unless (right_of op ty) No.Binary) (component_one p q (replicate 15 0) (replicate 15 0)) ∙ go (right_of op ty) refl
     where
       go : (t : Bool) → right_of op ty ≡ t → refuse_unless t No.Binary (on_result (step_result (step_of op stage ty p q)) (scalar_answer (result_type op ty)))
           ≡ on_result (step_result (step_of op stage ty p q)) (scalar_answer (result_type op ty))
       go true e = refl
       go false e = ap (λ (s : Step). on_result (step_result s) (scalar_answer (result_type op ty))) (sym (rightless op stage ty p q e))
+
+  -- and its answer has the operator's type
+  pub operator_step : (p q : ℕ) → step_answer (step_of op stage ty p q) ≡ on_scalars op stage ty p q
+  operator_step p q = go (step_of op stage ty p q) (step_answers op stage ty p q) ∙ sym (operated p q)
+    where
+      go : (s : Step) → Stepped (result_type op ty) s → step_answer s ≡ on_result (step_result s) (scalar_answer (result_type op ty))
+      go (Ok (t, b)) h = ap (λ (t : ℕ). scalar_answer t b) h.0
+      go (Err r) h = refl
 
 -- a unary operator on a scalar
 unary_one : (op ty b : ℕ) → unary_judged op (a_scalar ty b) ≡ refuse_unless (unary_right_of op ty) No.Unary (on_result (step_result (unary_step_of op ty b)) (scalar_answer ty))
@@ -110,24 +141,14 @@ unary_one op ty b =
     ∙ ap (refuse_unless (unary_right_of op ty) No.Unary) (answer_one (step_result (unary_step_of op ty b)) ty)
 
 -- a unary step answers for the right as well: its refusal is Unary, right or not, and its bits come with the right
-module _ (op ty b : ℕ) (s : Step) (e : s ≡ unary_step_of op ty b) (t : Step) (h : s ≡ t) where
-  unary_step : refuse_unless (unary_right_of op ty) No.Unary (on_result (step_result t) (scalar_answer ty)) ≡ unary_judged op (a_scalar ty b)
-  unary_step = ap (λ (t : Step). refuse_unless (unary_right_of op ty) No.Unary (on_result (step_result t) (scalar_answer ty))) (sym h ∙ e) ∙ sym (unary_one op ty b)
-
-  righted : Righted (unary_right_of op ty) t
-  righted = subst (Righted (unary_right_of op ty)) (sym e ∙ h) (unary_righted op ty b)
-
-module _ (op ty b : ℕ) (s : Step) (e : s ≡ unary_step_of op ty b) (v : Outcome) where
-  pub unary_refused : (r : Refusal) → s ≡ S.Refused r → v ≡ refused_with No.Unary 0 → v ≡ unary_judged op (a_scalar ty b)
-  unary_refused r h q = q ∙ go (unary_right_of op ty) (righted op ty b s e (S.Refused r) h) ∙ unary_step op ty b s e (S.Refused r) h
-    where
-      go : (t : Bool) → r ≡ refusal No.Unary 0 → refused_with No.Unary 0 ≡ refuse_unless t No.Unary (refused_as r)
-      go true k = ap refused_as (sym k)
-      go false k = refl
-
-  pub unary_bits : (t x : ℕ) → s ≡ S.Bits t x → v ≡ scalar_answer ty x → v ≡ unary_judged op (a_scalar ty b)
-  unary_bits t x h q =
-      q ∙ ap (λ (p : Bool). refuse_unless p No.Unary (scalar_answer ty x)) (sym (righted op ty b s e (S.Bits t x) h)) ∙ unary_step op ty b s e (S.Bits t x) h
+pub unary_step : (op ty b : ℕ) → step_answer (unary_step_of op ty b) ≡ unary_judged op (a_scalar ty b)
+unary_step op ty b = go (unary_right_of op ty) (unary_step_of op ty b) (unary_answers op ty b) (unary_righted op ty b) ∙ sym (unary_one op ty b)
+  where
+    go : (t : Bool) (s : Step) → Stepped ty s → Righted t s → step_answer s ≡ refuse_unless t No.Unary (on_result (step_result s) (scalar_answer ty))
+    go true (Ok (t, x)) k h = ap (λ (t : ℕ). scalar_answer t x) k.0
+    go false (Ok (t, x)) k h = absurd (false≢true h)
+    go true (Err r) k h = refl
+    go false (Err r) k h = ap refused_as h
 
 -- ---- conversions
 -- two scalars by their types and patterns, their conversions one after the other
@@ -136,9 +157,9 @@ converts x y op stage lt l rt r = on_result (conv_result (conv_of lt x l)) (λ p
 
 both_one : (op stage ty : ℕ) (o w : Out ℕ) → on_result (alone o) (λ xs. on_result (alone w) (λ ys. on_converted op stage ty unit xs unit ys))
     ≡ on_result o (λ p. on_result w (λ q. on_scalars op stage ty p q))
-both_one op stage ty (got p) (got q) = refl
-both_one op stage ty (got p) (stop r) = refl
-both_one op stage ty (stop r) w = refl
+both_one op stage ty (Ok p) (Ok q) = refl
+both_one op stage ty (Ok p) (Err r) = refl
+both_one op stage ty (Err r) w = refl
 
 -- operands of one column of one row convert by their first components
 two_scalars : (x y op stage : ℕ) (l r : Instance) → shape_of l ≡ unit → shape_of r ≡ unit
@@ -168,9 +189,9 @@ judged_first op stage l r p q =
     (λ i. refuse_unless (pair_ok op (p i) (q i)) No.Binary (on_targets (targets_of op l.ty r.ty) op stage l r))
     ∙ go (targets_of op l.ty r.ty)
   where
-    go : (t : Targets) → on_targets t op stage l r ≡ on_targets t op stage (first l) (first r)
-    go (T.Types x y) = two_scalars x y op stage l r p q ∙ sym (converted_one x y op stage _ _ _ _)
-    go T.Nothing = refl
+    go : (t : Option (ℕ × ℕ)) → on_targets t op stage l r ≡ on_targets t op stage (first l) (first r)
+    go (Some (x, y)) = two_scalars x y op stage l r p q ∙ sym (converted_one x y op stage _ _ _ _)
+    go None = refl
 
 unary_first : (op : ℕ) (v : Instance) → shape_of v ≡ unit → unary_judged op v ≡ unary_judged op (first v)
 unfolding unary_judged

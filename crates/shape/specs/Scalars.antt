@@ -1,7 +1,6 @@
 -- For the contracts of private functions: scalars that go by their types and patterns, as operands and answers. Assumes nothing.
-use Rattle.std.specs.Prelude.{ℕ}
-use Rattle.scalar.specs.declared.Step.{Step}
-use Rattle.scalar.specs.declared.Step.TheVariants as S
+use Rattle.std.specs.Prelude.{ℕ, Ok, Err}
+use Rattle.scalar.specs.Step.{Step}
 use Rattle.operand.specs.Operand.{shape_of, a_scalar}
 use Rattle.operand.specs.Outcome.{refused_as, value_of}
 use Rattle.operand.specs.declared.Outcome.{Outcome}
@@ -13,8 +12,8 @@ scalar_answer ty b = value_of (a_scalar ty b)
 
 -- one step as an answer
 abbrev pub step_answer : Step → Outcome
-step_answer (S.Bits t b) = scalar_answer t b
-step_answer (S.Refused r) = refused_as r
+step_answer (Ok (t, b)) = scalar_answer t b
+step_answer (Err r) = refused_as r
 
 -- two converted scalars
 abbrev pub on_scalars : ℕ → ℕ → ℕ → ℕ → ℕ → Outcome

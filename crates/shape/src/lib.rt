@@ -9,7 +9,7 @@ ghost use Rattle.dispatch.specs.Meaning.{unary_meaning, binary_meaning};
 
 mod scalars;
 
-use operand::{Instance, Outcome, Shape, formed, is_scalar, refused};
+use operand::{Instance, Outcome, formed, is_scalar, refused};
 use pairing::{call_fault, op_known, unary_known};
 
 // The unary operator of a code on a scalar, by its type and pattern.
@@ -23,13 +23,8 @@ pub fn unary_scalar(op: u8, stage: u8, ty: u8, bits: u64) -> Outcome
 pub fn unary(op: u8, stage: u8, v: Instance) -> Outcome
     ensures { result ≡ unary_meaning op stage v }
 {
-    let s = Shape {
-        cols: v.cols,
-        rows: v.rows,
-    };
-    if is_scalar(s) {
-        let step = scalars::unary(op, stage, v.ty, v.comps[0]);
-        return scalars::settled(step);
+    if is_scalar(v.shape()) {
+        return unary_scalar(op, stage, v.ty, v.comps[0]);
     }
     any_unary(op, stage, v)
 }
@@ -38,13 +33,9 @@ pub fn unary(op: u8, stage: u8, v: Instance) -> Outcome
 fn any_unary(op: u8, stage: u8, v: Instance) -> Outcome
     ensures { result ≡ unary_meaning op stage v }
 {
-    let s = Shape {
-        cols: v.cols,
-        rows: v.rows,
-    };
-    let fault = call_fault(unary_known(op), stage, formed(v.ty, s, &v.comps));
-    if fault != 0 {
-        return refused(fault, 0);
+    let s = v.shape();
+    if let Err(number) = call_fault(unary_known(op), stage, formed(v.ty, s, &v.comps)) {
+        return refused(number, 0);
     }
     dispatch::unary_judge(op, v.ty, s, &v.comps)
 }
@@ -60,17 +51,8 @@ pub fn binary_scalars(op: u8, stage: u8, lt: u8, l: u64, rt: u8, r: u64) -> Outc
 pub fn binary(op: u8, stage: u8, l: Instance, r: Instance) -> Outcome
     ensures { result ≡ binary_meaning op stage l r }
 {
-    let a = Shape {
-        cols: l.cols,
-        rows: l.rows,
-    };
-    let b = Shape {
-        cols: r.cols,
-        rows: r.rows,
-    };
-    if is_scalar(a) & is_scalar(b) {
-        let step = scalars::binary(op, stage, l.ty, l.comps[0], r.ty, r.comps[0]);
-        return scalars::settled(step);
+    if is_scalar(l.shape()) & is_scalar(r.shape()) {
+        return binary_scalars(op, stage, l.ty, l.comps[0], r.ty, r.comps[0]);
     }
     any_binary(op, stage, l, r)
 }
@@ -79,22 +61,11 @@ pub fn binary(op: u8, stage: u8, l: Instance, r: Instance) -> Outcome
 fn any_binary(op: u8, stage: u8, l: Instance, r: Instance) -> Outcome
     ensures { result ≡ binary_meaning op stage l r }
 {
-    let a = Shape {
-        cols: l.cols,
-        rows: l.rows,
-    };
-    let b = Shape {
-        cols: r.cols,
-        rows: r.rows,
-    };
-    let known = op_known(op);
-    let fault = call_fault(
-        known,
-        stage,
-        formed(l.ty, a, &l.comps) & formed(r.ty, b, &r.comps),
-    );
-    if fault != 0 {
-        return refused(fault, 0);
+    let a = l.shape();
+    let b = r.shape();
+    let both = formed(l.ty, a, &l.comps) & formed(r.ty, b, &r.comps);
+    if let Err(number) = call_fault(op_known(op), stage, both) {
+        return refused(number, 0);
     }
     dispatch::judge(op, stage, l.ty, a, &l.comps, r.ty, b, &r.comps)
 }

@@ -5,10 +5,11 @@ use mathlib.Core.List.{List, [], ◌∷◌, ◌++◌, map, map-append}
 use mathlib.Core.Logic.{⊎_elim}
 use Prim.Native.Nat.{ℕ, zero, suc, ◌+◌, ◌*◌, ◌-◌, ◌<◌, ◌≤◌}
 use native.Mathlib.Nat.{mul-le-mul, le_antisymm, le_of_suc-le-suc, not-suc-le-zero}
-use native.Mathlib.Numerals.{sub-one, add-one}
+use native.Mathlib.Numerals.{add-one}
 use native.Mathlib.Omega.{arith}
 use lib.Dec.{eqb}
 use lib.ListN.{length, get_or, set, replicate, length-map, length-replicate, get_or-replicate, get_or-eq_default}
+use Rattle.std.specs.List.{list_all, range_with_len}
 use Rattle.integer.proofs.Order.{le_or_lt}
 use Rattle.low.specs.Bytes.{whole, part, numbers}
 use Rattle.low.proofs.Eights.{numbers_long, numbers_snoc, one_set}
@@ -24,26 +25,13 @@ use Rattle.sheet.specs.declared.literals.LiteralHead.{LiteralHead}
 use Rattle.sheet.specs.Node.{all_proper, components, literal_ok}
 
 -- ---- every component proper
-open_proper : (ty n : ℕ) (b : List ℕ) (at : ℕ) → 0 < n → all_proper ty n b at ≡ (proper_of ty (whole (part b at 8)) && all_proper ty (n - 1) b (at + 8))
+-- as the code goes, by the number of each, from number k on
+pub by_number : (ty : ℕ) (b : List ℕ) (at k n : ℕ) → list_all (λ i. proper_of ty (whole (part b (at + 8 * i) 8))) (range_with_len k n) ≡ all_proper ty n b (at + 8 * k)
 unfolding all_proper every numbers
-open_proper ty zero b at h = absurd (omega arith)
-open_proper ty (suc n) b at h = simp (sub-one (suc n))
-
-pub none_proper : (ty n : ℕ) (b : List ℕ) (at : ℕ) → n ≤ 0 → all_proper ty n b at ≡ true
-unfolding all_proper every numbers
-none_proper ty zero b at h = refl
-none_proper ty (suc n) b at h = absurd (omega arith)
-
--- as the code goes: the word w that was read, and the answer g of its test
-module _ (ty n : ℕ) (b : List ℕ) (at w : ℕ) (g : Bool) (h : 0 < n) (e : w ≡ whole (part b at 8)) (q : g ≡ proper_of ty w) where
-  tested : all_proper ty n b at ≡ (g && all_proper ty (n - 1) b (at + 8))
-  tested = open_proper ty n b at h ∙ ap (λ (x : Bool). x && all_proper ty (n - 1) b (at + 8)) (ap (proper_of ty) (sym e) ∙ sym q)
-
-  pub first_bad_lem : g ≡ false → all_proper ty n b at ≡ false
-  first_bad_lem f = tested ∙ rw f
-
-  pub first_good : g ≡ true → all_proper ty n b at ≡ all_proper ty (n - 1) b (at + 8)
-  first_good f = tested ∙ rw f
+by_number ty b at k zero = refl
+by_number ty b at k (suc n) =
+    let e : at + 8 * (k + 1) ≡ at + 8 * k + 8 = omega arith in
+    ap (λ (x : Bool). proper_of ty (whole (part b (at + 8 * k) 8)) && x) (by_number ty b at (k + 1) n ∙ ap (all_proper ty n b) e)
 
 -- ---- the components in an array of 16
 length_components : (ty n : ℕ) (b : List ℕ) (at : ℕ) → length (components ty n b at) ≡ n

@@ -6,18 +6,17 @@ use Prim.Native.Nat.{ℕ, zero, suc}
 use native.Mathlib.Omega.{arith}
 use lib.ListN.{length, replicate}
 use Rattle.value.specs.Pattern.{kept_of}
-use Rattle.low.specs.declared.Counted.{Counted}
-use Rattle.low.specs.declared.Counted.TheVariants.{Done, Refused}
-use Rattle.sheet.specs.declared.Head.TheVariants as head
+use Rattle.std.specs.Prelude.{Result, Ok}
+use Rattle.low.specs.declared.Refused.{Refused}
 use Rattle.low.specs.Bytes.{whole, part, numbers}
-use Rattle.low.specs.Read.{must, then_read, read_as, placed_from}
+use Rattle.low.specs.Read.{must, then_read, read_as, placed_from, refusal}
 use Rattle.types.specs.Edition.{plain}
 use Rattle.operand.specs.Operand.{every}
 use Rattle.sheet.specs.Tree.{reference, binary, setting, entry_stage, names, names_of}
 use Rattle.sheet.specs.declared.Kind.TheVariants.{Setting, Expression}
 use Rattle.sheet.specs.Stage.{kind_of, counts_as}
 use Rattle.sheet.specs.Node.{all_proper, components, read_literal, read_reference, operands, read_operator, tag_of, on_tag, read_node, literal_in, any_marked}
-use Rattle.sheet.specs.Record.{read_head, read_setting, read_kind, read_body, read_record}
+use Rattle.sheet.specs.Record.{headed, read_head, read_setting, read_kind, read_body, read_record}
 use Rattle.sheet.specs.Sheet.{read_records, read_from, read_sheet, counted_of}
 use Rattle.sheet.proofs.Sheets.{sheet_long}
 use Rattle.sheet.proofs.Example.{bytes, u32}
@@ -38,11 +37,11 @@ unfoldable pub referring : ℕ → List ℕ
 referring zero = record_of 0 one
 referring (suc n) = referring n ++ record_of 0 (2 ∷ 0 ∷ [])
 
-abbrev Answers : List (List ℕ) → List Counted → Type 0
+abbrev Answers : List (List ℕ) → List (Result ℕ Refused) → Type 0
 Answers sheets answers = map (λ (s : List ℕ). counted_of (read_sheet s)) sheets ≡ answers
 
 -- good sheets: neither is every sheet refused, nor is there one answer, nor is a depth of 32 too deep
-pub check_accepts : Answers ([] ∷ bytes ∷ record_of 0 (nested 31) ∷ []) (Done 0 ∷ Done 3 ∷ Done 1 ∷ [])
+pub check_accepts : Answers ([] ∷ bytes ∷ record_of 0 (nested 31) ∷ []) (Ok 0 ∷ Ok 3 ∷ Ok 1 ∷ [])
 unfolding every whole part numbers must then_read read_as placed_from all_proper components read_literal read_reference operands read_operator tag_of on_tag read_node
     kind_of read_head read_setting read_kind read_body read_record read_records read_from read_sheet entry_stage nested
 check_accepts = refl
@@ -59,24 +58,24 @@ pub check_refuses : Answers (
     ∷ record_of 3 (1 ∷ 1 ∷ 1 ∷ 1 ∷ replicate 8 0)
     ∷ (record_of 0 one ++ 213 ∷ 24 ∷ 0 ∷ 0 ∷ 0 ∷ [])
     ∷ [])
-    (Refused 28 69 ∷ Refused 27 5 ∷ Refused 23 22 ∷ Refused 29 17 ∷ Refused 25 5 ∷ Refused 22 5 ∷ Refused 26 5 ∷ Refused 21 17 ∷ [])
+    (refusal 28 69 ∷ refusal 27 5 ∷ refusal 23 22 ∷ refusal 29 17 ∷ refusal 25 5 ∷ refusal 22 5 ∷ refusal 26 5 ∷ refusal 21 17 ∷ [])
 unfolding every whole part numbers must then_read read_as placed_from all_proper components read_literal read_reference operands read_operator tag_of on_tag read_node
     kind_of read_head read_setting read_kind read_body read_record read_records read_from read_sheet entry_stage nested
 check_refuses = refl
 
 -- 128 entries are taken, 129 are not
-pub check_counts : Answers (referring 127 ∷ referring 128 ∷ []) (Done 128 ∷ Refused 24 906 ∷ [])
+pub check_counts : Answers (referring 127 ∷ referring 128 ∷ []) (Ok 128 ∷ refusal 24 906 ∷ [])
 unfolding every whole part numbers must then_read read_as placed_from all_proper components read_literal read_reference operands read_operator tag_of on_tag read_node
     kind_of read_head read_setting read_kind read_body read_record read_records read_from read_sheet entry_stage referring
 check_counts = refl
 
 -- a byte more than 16,384 is too long, whatever the bytes are
-pub too_long_by_one : (s : List ℕ) → length s ≡ 16385 → counted_of (read_sheet s) ≡ Refused 20 0
+pub too_long_by_one : (s : List ℕ) → length s ≡ 16385 → counted_of (read_sheet s) ≡ refusal 20 0
 too_long_by_one s e = sym (sheet_long s (omega arith))
 
 -- another mark, and stage byte 4, whose place is its own; a record in the middle of a sheet
 pub heads : map (λ (s : List ℕ). read_head s 1) ((0 ∷ 213 ∷ 24 ∷ 0 ∷ 0 ∷ 0 ∷ []) ∷ (0 ∷ record_of 4 []) ∷ (0 ∷ record_of 2 (7 ∷ 8 ∷ [])) ∷ [])
-    ≡ head.Refused 21 1 ∷ head.Refused 23 3 ∷ head.Record 2 6 2 ∷ []
+    ≡ refusal 21 1 ∷ refusal 23 3 ∷ headed 2 6 2 ∷ []
 unfolding every numbers whole part must read_head
 heads = refl
 

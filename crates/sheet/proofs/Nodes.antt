@@ -7,10 +7,10 @@ use native.Mathlib.Numerals.{sub-one}
 use native.Mathlib.Omega.{arith}
 use lib.ListN.{length, get_or}
 use borrow.Author.Tests.{leb-true, le-leb, lt-leb, lt-ltb, le-ltb, ne_eqb}
-use Rattle.low.specs.declared.Seen.{Seen}
-use Rattle.low.specs.declared.Seen.TheVariants.{Good, Refused}
+use Rattle.std.specs.Prelude.{Result, Ok, Err}
+use Rattle.low.specs.declared.Refused.{Refused}
 use Rattle.sheet.specs.declared.literals.LiteralHead.{LiteralHead}
-use Rattle.low.specs.Read.{Read, found, refused, must, then_read, read_as, there, seen_of}
+use Rattle.low.specs.Read.{Read, found, refused, must, then_read, read_as, there, refusal, seen_of}
 use Rattle.sheet.specs.Node.{cut, literal_head, literal_count, literal_ok, all_proper, read_components, read_literal, read_reference, operator_known, operands, read_operator}
 use Rattle.sheet.specs.Tree.{Expr, literal, reference, unary, binary}
 use Rattle.sheet.specs.Node.{Tag, is_literal, is_reference, is_operator, unknown, tag_of, on_tag, read_node}
@@ -70,16 +70,18 @@ module _ (place op : ℕ) (below : ℕ → Read Expr) (at : ℕ) where
   unfolding operands
   seen_one = seen_as (unary place op) (below at)
 
-  seen_two : (m : ℕ) → Good m ≡ seen_of (below at) → seen_of (operands true place op below at) ≡ seen_of (below m)
+  seen_two : (m : ℕ) → Ok m ≡ seen_of (below at) → seen_of (operands true place op below at) ≡ seen_of (below m)
   unfolding operands then_read
   seen_two m e = let w = was_read (below at) m e in rw w.1 (seen_as (binary place op w.0) (below m))
 
-  seen_two_not : (k p : ℕ) → Refused k p ≡ seen_of (below at) → seen_of (operands true place op below at) ≡ Refused k p
+  -- a refusal of the first operand is the operator's, before one operand and before two
+  seen_not : (two : Bool) (z : Refused) → Err z ≡ seen_of (below at) → Err z ≡ seen_of (operands two place op below at)
   unfolding operands then_read
-  seen_two_not k p e = rw (was_refused (below at) k p e)
+  seen_not false z e = e ∙ sym seen_one
+  seen_not true z e = rw (was_refused (below at) z e)
 
 module _ (two : Bool) (below : ℕ → Read Expr) (b : List ℕ) (at : ℕ) where
-  pub operator_cut : length b < at + 2 → Refused No.CutShort (length b) ≡ seen_of (read_operator two below b at)
+  pub operator_cut : length b < at + 2 → refusal No.CutShort (length b) ≡ seen_of (read_operator two below b at)
   unfolding read_operator must
   operator_cut l = simp (lt-leb (at + 2) (length b) l)
 
@@ -91,24 +93,24 @@ module _ (two : Bool) (below : ℕ → Read Expr) (b : List ℕ) (at : ℕ) wher
         must_is _ _ _ _ _ (le-leb (at + 2) (length b) l)
         (ap (λ (x : Bool). must x (refused No.BadNode at) (operands two at (get_or b (at + 1) 0) below (at + 2))) (sym q))
 
-    pub operator_bad : g ≡ false → Refused No.BadNode at ≡ seen_of (read_operator two below b at)
+    pub operator_bad : g ≡ false → refusal No.BadNode at ≡ seen_of (read_operator two below b at)
     unfolding must
     operator_bad f = sym (ap seen_of by_operator_lem ∙ rw f)
 
-    module _ (f : g ≡ true) where
+    -- r is what the first operand answered
+    module _ (f : g ≡ true) (r : Result ℕ Refused) (h : r ≡ seen_of (below (at + 2))) where
       by_operands : (v : Bool) → two ≡ v → read_operator two below b at ≡ operands v at (get_or b (at + 1) 0) below (at + 2)
       by_operands v e = by_operator_lem ∙ must_is _ _ _ _ _ f (ap (λ (x : Bool). operands x at (get_or b (at + 1) 0) below (at + 2)) e)
 
-      pub operator_one : two ≡ false → seen_of (below (at + 2)) ≡ seen_of (read_operator two below b at)
-      operator_one e = sym (ap seen_of (by_operands false e) ∙ seen_one at (get_or b (at + 1) 0) below (at + 2))
+      pub operator_not : (z : Refused) → r ≡ Err z → Err z ≡ seen_of (read_operator two below b at)
+      operator_not z i = seen_not at (get_or b (at + 1) 0) below (at + 2) two z (sym i ∙ h) ∙ sym (ap seen_of (by_operands two refl))
 
-      -- r is what the first of two operands answered
-      module _ (e : two ≡ true) (r : Seen) (h : r ≡ seen_of (below (at + 2))) where
-        pub operator_two : (m : ℕ) → r ≡ Good m → seen_of (below m) ≡ seen_of (read_operator two below b at)
-        operator_two m i = sym (ap seen_of (by_operands true e) ∙ seen_two at (get_or b (at + 1) 0) below (at + 2) m (sym i ∙ h))
+      module _ (m : ℕ) (i : r ≡ Ok m) where
+        pub operator_one : two ≡ false → Ok m ≡ seen_of (read_operator two below b at)
+        operator_one e = sym i ∙ h ∙ sym (ap seen_of (by_operands false e) ∙ seen_one at (get_or b (at + 1) 0) below (at + 2))
 
-        pub operator_two_not : (k p : ℕ) → r ≡ Refused k p → r ≡ seen_of (read_operator two below b at)
-        operator_two_not k p i = i ∙ sym (ap seen_of (by_operands true e) ∙ seen_two_not at (get_or b (at + 1) 0) below (at + 2) k p (sym i ∙ h))
+        pub operator_two : two ≡ true → seen_of (below m) ≡ seen_of (read_operator two below b at)
+        operator_two e = sym (ap seen_of (by_operands true e) ∙ seen_two at (get_or b (at + 1) 0) below (at + 2) m (sym i ∙ h))
 
 -- ---- a reference, as the code goes
 module _ (stages : List ℕ) (own : ℕ) (b : List ℕ) (at : ℕ) where
@@ -159,7 +161,7 @@ module _ (ed : Edition) where
       within_must b at _ _ _ _ (omega arith) (λ _. within_tag b (read_node ed levels stages own b) (within_node levels stages own b) at _ stages own l)
 
   -- where the code goes on from
-  pub read_past : (levels : ℕ) (stages : List ℕ) (own : ℕ) (b : List ℕ) (at n : ℕ) → at ≤ length b → Good n ≡ seen_of (read_node ed levels stages own b at)
+  pub read_past : (levels : ℕ) (stages : List ℕ) (own : ℕ) (b : List ℕ) (at n : ℕ) → at ≤ length b → Ok n ≡ seen_of (read_node ed levels stages own b at)
       → (at < n) × (n ≤ length b)
   unfolding Within
   read_past levels stages own b at n l e = rw (was_read (read_node ed levels stages own b at) n e).1 at (within_node levels stages own b at l)
@@ -199,13 +201,13 @@ module _ (ed : Edition) where
     seen_binary q = ap seen_of (node_at levels stages own b at h l (is_operator true) (ap tag_of q))
 
     pub seen_unknown : (get_or b at 0 ≡ 1 → ⊥) → (get_or b at 0 ≡ 2 → ⊥) → (get_or b at 0 ≡ 3 → ⊥) → (get_or b at 0 ≡ 4 → ⊥)
-        → seen_of (read_node ed levels stages own b at) ≡ Refused No.BadNode at
+        → seen_of (read_node ed levels stages own b at) ≡ refusal No.BadNode at
     unfolding on_tag
     seen_unknown w x y z = ap seen_of (node_at levels stages own b at h l unknown (tag_unknown (get_or b at 0) w x y z))
 
   -- ---- a literal, as the code goes: h is its head, n its number of components, g and p answer the tests of its head and of its components
   module _ (setting : Bool) (b : List ℕ) (at : ℕ) where
-    pub literal_cut : length b < at + 4 → Refused No.CutShort (length b) ≡ seen_of (read_literal ed setting b at)
+    pub literal_cut : length b < at + 4 → refusal No.CutShort (length b) ≡ seen_of (read_literal ed setting b at)
     unfolding read_literal must
     literal_cut l = simp (lt-leb (at + 4) (length b) l)
 
@@ -217,7 +219,7 @@ module _ (ed : Edition) where
           (ap (λ (x : LiteralHead). must (literal_ok ed setting x) (refused No.BadValue at) (read_components x (x.cols * x.rows) b at)) (sym e)
           ∙ ap (λ (x : Bool). must x (refused No.BadValue at) (read_components h (h.cols * h.rows) b at)) (sym ok))
 
-      pub literal_shape : g ≡ false → Refused No.BadValue at ≡ seen_of (read_literal ed setting b at)
+      pub literal_shape : g ≡ false → refusal No.BadValue at ≡ seen_of (read_literal ed setting b at)
       unfolding must
       literal_shape f = sym (ap seen_of by_head ∙ rw f)
 
@@ -225,15 +227,15 @@ module _ (ed : Edition) where
         by_components : read_literal ed setting b at ≡ read_components h n b at
         by_components = by_head ∙ must_is _ _ _ _ _ f (ap (λ (k : ℕ). read_components h k b at) (sym q))
 
-        pub literal_short : length b < at + 4 + 8 * n → Refused No.CutShort (length b) ≡ seen_of (read_literal ed setting b at)
+        pub literal_short : length b < at + 4 + 8 * n → refusal No.CutShort (length b) ≡ seen_of (read_literal ed setting b at)
         unfolding must
         literal_short k = sym (ap seen_of by_components ∙ simp (lt-leb (at + 4 + 8 * n) (length b) k))
 
         module _ (k : at + 4 + 8 * n ≤ length b) (p : Bool) (w : p ≡ all_proper h.ty n b (at + 4)) where
-          pub literal_bad : p ≡ false → Refused No.BadValue at ≡ seen_of (read_literal ed setting b at)
+          pub literal_bad : p ≡ false → refusal No.BadValue at ≡ seen_of (read_literal ed setting b at)
           unfolding must
           literal_bad z = sym (ap seen_of by_components ∙ simp (le-leb (at + 4 + 8 * n) (length b) k, ← w, z))
 
-          pub literal_good : p ≡ true → Good (at + 4 + 8 * n) ≡ seen_of (read_literal ed setting b at)
+          pub literal_good : p ≡ true → Ok (at + 4 + 8 * n) ≡ seen_of (read_literal ed setting b at)
           unfolding must
           literal_good z = sym (ap seen_of by_components ∙ simp (le-leb (at + 4 + 8 * n) (length b) k, ← w, z))

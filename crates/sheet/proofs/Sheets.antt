@@ -11,10 +11,10 @@ use lib.Dec.{ltb, leb}
 use borrow.Author.Tests.{lt-ltb, le-ltb, le-leb, lt-leb}
 use Rattle.value.specs.Pattern.{pick}
 use Rattle.value.specs.Refusals as No
-use Rattle.low.specs.declared.Counted.TheVariants as counted
+use Rattle.std.specs.Prelude.{Result, Ok, Err}
+use Rattle.low.specs.declared.Refused.{Refused}
 use Rattle.sheet.specs.declared.Passed.{Passed}
-use Rattle.sheet.specs.declared.Passed.TheVariants as passed
-use Rattle.low.specs.Read.{Read, found, refused, must, then_read, read_as}
+use Rattle.low.specs.Read.{Read, found, refused, must, then_read, read_as, refusal}
 use Rattle.sheet.specs.Tree.{Entry, entry_stage}
 use Rattle.sheet.specs.Record.{read_record, passed_of}
 use Rattle.sheet.specs.Sheet.{Sheet, sheet_of, read_records, read_from, read_sheet, counted_of}
@@ -23,21 +23,27 @@ use Rattle.sheet.proofs.Records.{record_there}
 use Rattle.types.specs.Edition.{Edition, plain}
 
 -- ---- from the code's answer to the definition's
-was_passed : (x : Read Entry) (g n : ℕ) → passed.Entry g n ≡ passed_of x → (e : Entry) × (entry_stage e ≡ g) × (x ≡ found e n)
-was_passed (found e m) g n q = (e, let h : entry_stage e ≡ g = cc in h, let i : m ≡ n = cc in ap (found e) i)
-was_passed (refused j r) g n q = absurd (let z : ◌≡◌ {A = ℕ} 0 1 = cc in omega arith)
+was_passed : (x : Read Entry) (o : Passed) → Ok o ≡ passed_of x → (e : Entry) × (entry_stage e ≡ o.stage) × (x ≡ found e o.next)
+was_passed (found e m) o q =
+    let h : o ≡ record { stage = entry_stage e; next = m } = cc in
+    (e, sym (ap (λ (p : Passed). p.stage) h), ap (found e) (sym (ap (λ (p : Passed). p.next) h)))
+was_passed (refused j r) o q = absurd (let z : ◌≡◌ {A = ℕ} 0 1 = cc in omega arith)
 
-was_stopped : (x : Read Entry) (k p : ℕ) → passed.Refused k p ≡ passed_of x → x ≡ refused k p
-was_stopped (found e n) k p q = absurd (let z : ◌≡◌ {A = ℕ} 0 1 = cc in omega arith)
-was_stopped (refused j r) k p q = let h : j ≡ k = cc in let i : r ≡ p = cc in cc
+was_stopped : (x : Read Entry) (z : Refused) → Err z ≡ passed_of x → x ≡ refused z.number z.place
+was_stopped (found e n) z q = absurd (let y : ◌≡◌ {A = ℕ} 0 1 = cc in omega arith)
+was_stopped (refused j r) z q =
+    let h : z ≡ record { number = j; place = r } = cc in
+    rw h
 
-pub was_good : (x : Read Sheet) (n : ℕ) → counted.Done n ≡ counted_of x → (sh : Sheet) × (m : ℕ) × (x ≡ found sh m) × (length sh.entries ≡ n)
+pub was_good : (x : Read Sheet) (n : ℕ) → Ok n ≡ counted_of x → (sh : Sheet) × (m : ℕ) × (x ≡ found sh m) × (length sh.entries ≡ n)
 was_good (found sh m) n e = (sh, m, refl, let z : length sh.entries ≡ n = cc in z)
 was_good (refused j q) n e = absurd (let z : ◌≡◌ {A = ℕ} 0 1 = cc in omega arith)
 
-pub was_bad : (x : Read Sheet) (k p : ℕ) → counted.Refused k p ≡ counted_of x → x ≡ refused k p
-was_bad (found sh m) k p e = absurd (let z : ◌≡◌ {A = ℕ} 0 1 = cc in omega arith)
-was_bad (refused j q) k p e = let y : j ≡ k = cc in let z : q ≡ p = cc in cc
+pub was_bad : (x : Read Sheet) (z : Refused) → Err z ≡ counted_of x → x ≡ refused z.number z.place
+was_bad (found sh m) z e = absurd (let y : ◌≡◌ {A = ℕ} 0 1 = cc in omega arith)
+was_bad (refused j q) z e =
+    let h : z ≡ record { number = j; place = q } = cc in
+    rw h
 
 -- what follows one record
 abbrev after_record : Edition → ℕ → List ℕ → List Entry → Read Entry → Read (List Entry)
@@ -91,10 +97,11 @@ module _ (ed : Edition) where
     records_next e n q = step (found e n) q
 
   -- a record that is read ends past its start, and within the sheet
-  pub record_past : (stages s : List ℕ) (at g n : ℕ) (r : Passed) → r ≡ passed_of (read_record ed stages s at) → r ≡ passed.Entry g n → (at < n) × (n ≤ length s)
-  record_past stages s at g n r e q =
-      let w = was_passed (read_record ed stages s at) g n (sym q ∙ e) in
-      let k = record_there ed stages s at w.0 n w.2 in
+  pub record_past : (stages s : List ℕ) (at : ℕ) (r : Result Passed Refused) → r ≡ passed_of (read_record ed stages s at) → (o : Passed) → r ≡ Ok o
+      → (at < o.next) × (o.next ≤ length s)
+  record_past stages s at r e o q =
+      let w = was_passed (read_record ed stages s at) o (sym q ∙ e) in
+      let k = record_there ed stages s at w.0 o.next w.2 in
       (omega (arith, k.ends, k.after), omega (arith, k.ends, k.inside))
 
   -- the entries of an accepted sheet begin with those done
@@ -146,7 +153,7 @@ pub record Going (s stages : List ℕ) (n at : ℕ) : Type 0 where
   pub short : length s ≤ 16384
   pub same : read_sheet s ≡ read_as (sheet_of plain 0) (read_records plain (128 - n) s done at)
 
-pub sheet_long : (s : List ℕ) → 16384 < length s → counted.Refused No.SheetTooLong 0 ≡ counted_of (read_sheet s)
+pub sheet_long : (s : List ℕ) → 16384 < length s → refusal No.SheetTooLong 0 ≡ counted_of (read_sheet s)
 unfolding read_sheet must
 sheet_long s l = simp (lt-leb (length s) 16384 l)
 
@@ -159,24 +166,28 @@ module _ (s stages : List ℕ) (n at : ℕ) (i : Going s stages n at) where
   answered : (x : Read (List Entry)) → read_records plain (128 - n) s i.done at ≡ x → read_sheet s ≡ read_as (sheet_of plain 0) x
   answered x e = i.same ∙ ap (read_as (sheet_of plain 0)) e
 
-  pub going_end : length s ≤ at → counted.Done n ≡ counted_of (read_sheet s)
+  pub going_end : length s ≤ at → Ok n ≡ counted_of (read_sheet s)
   unfolding read_as
-  going_end l = sym (ap counted_of (answered (found i.done at) (records_end plain (128 - n) s i.done at l)) ∙ ap counted.Done i.counted)
+  going_end l = sym (ap counted_of (answered (found i.done at) (records_end plain (128 - n) s i.done at l)) ∙ ap Ok i.counted)
 
-  pub going_full : at < length s → 128 ≤ n → counted.Refused No.TooManyEntries at ≡ counted_of (read_sheet s)
+  pub going_full : at < length s → 128 ≤ n → refusal No.TooManyEntries at ≡ counted_of (read_sheet s)
   unfolding read_as
   going_full l h = sym (ap counted_of (answered (refused No.TooManyEntries at) (records_full plain (128 - n) s i.done at l (omega arith))))
 
-  module _ (l : at < length s) (h : n < 128) (r : Passed) (e : r ≡ passed_of (read_record plain (take n stages) s at)) where
-    pub going_bad : (k p : ℕ) → r ≡ passed.Refused k p → counted.Refused k p ≡ counted_of (read_sheet s)
+  module _ (l : at < length s) (h : n < 128) (r : Result Passed Refused) (e : r ≡ passed_of (read_record plain (take n stages) s at)) where
+    pub going_bad : (z : Refused) → r ≡ Err z → Err z ≡ counted_of (read_sheet s)
     unfolding read_as
-    going_bad k p q =
-        let x = was_stopped (read_record plain (take n stages) s at) k p (sym q ∙ e) in
+    going_bad z q =
+        let k = z.number in
+        let p = z.place in
+        let x = was_stopped (read_record plain (take n stages) s at) z (sym q ∙ e) in
         sym (ap counted_of (answered (refused k p) (records_bad plain (128 - n) s i.done at (take n stages) l (omega arith) i.staged k p x)))
 
-    pub going_on : (g m : ℕ) → r ≡ passed.Entry g m → Going s (set stages n g) (n + 1) m
-    going_on g m q =
-        let w = was_passed (read_record plain (take n stages) s at) g m (sym q ∙ e) in
+    pub going_on : (o : Passed) → r ≡ Ok o → Going s (set stages n o.stage) (n + 1) o.next
+    going_on o q =
+        let g = o.stage in
+        let m = o.next in
+        let w = was_passed (read_record plain (take n stages) s at) o (sym q ∙ e) in
         let after = records_next plain (128 - n) s i.done at (take n stages) l (omega arith) i.staged w.0 m w.2 in
         let less = ap (λ (k : ℕ). read_records plain k s (i.done ++ w.0 ∷ []) m) (let z : 128 - n - 1 ≡ 128 - (n + 1) = omega arith in z) in
         record {

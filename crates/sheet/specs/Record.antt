@@ -1,13 +1,12 @@
 -- One record: mark, stage, body length, body. Places are counted from the sheet's first byte, in a body from its own.
-use Rattle.std.specs.Prelude.{ℕ, ◌+◌, List, true, ◌&&◌, length, get_or, leb, eqb}
+use Rattle.std.specs.Prelude.{ℕ, ◌+◌, List, true, ◌&&◌, length, get_or, leb, eqb, Result, Ok, Err}
 use Rattle.low.specs.Bytes.{whole, part}
-use Rattle.low.specs.Read.{Read, found, refused, must, then_read, read_as, placed_from, there}
+use Rattle.low.specs.declared.Refused.{Refused}
+use Rattle.low.specs.Read.{Read, found, refused, must, then_read, read_as, placed_from, there, refusal}
 use Rattle.types.specs.Edition.{Edition}
 use Rattle.value.specs.Refusals as No
 use Rattle.sheet.specs.declared.Head.{Head}
-use Rattle.sheet.specs.declared.Head.TheVariants as head
 use Rattle.sheet.specs.declared.Passed.{Passed}
-use Rattle.sheet.specs.declared.Passed.TheVariants as passed
 use Rattle.sheet.specs.declared.Kind.{Kind}
 use Rattle.sheet.specs.declared.Kind.TheVariants.{Setting, Expression}
 use Rattle.sheet.specs.Tree.{Entry, setting, expression, entry_stage}
@@ -18,14 +17,18 @@ use Rattle.sheet.specs.Node.{cut, read_literal, read_node}
 abbrev pub body_len : List ℕ → ℕ → ℕ
 body_len s at = whole (part s (at + 3) 2)
 
+-- a head, as the code answers it
+abbrev pub headed : ℕ → ℕ → ℕ → Result Head Refused
+headed stage start len = Ok (record { stage = stage; start = start; len = len })
+
 -- mark D5 17, stage byte, body length: where the body starts and its length
-unfoldable pub read_head : List ℕ → ℕ → Head
+unfoldable pub read_head : List ℕ → ℕ → Result Head Refused
 read_head s at =
-    must (there s at 5) (head.Refused No.CutShort (length s))
-    (must (eqb (get_or s at 0) 213 && eqb (get_or s (at + 1) 0) 23) (head.Refused No.BadMark at)
-    (must (stage_known (get_or s (at + 2) 0)) (head.Refused No.BadStage (at + 2))
-    (must (there s (at + 5) (body_len s at)) (head.Refused No.CutShort (length s))
-    (head.Record (get_or s (at + 2) 0) (at + 5) (body_len s at)))))
+    must (there s at 5) (refusal No.CutShort (length s))
+    (must (eqb (get_or s at 0) 213 && eqb (get_or s (at + 1) 0) 23) (refusal No.BadMark at)
+    (must (stage_known (get_or s (at + 2) 0)) (refusal No.BadStage (at + 2))
+    (must (there s (at + 5) (body_len s at)) (refusal No.CutShort (length s))
+    (headed (get_or s (at + 2) 0) (at + 5) (body_len s at)))))
 
 -- a setting's body is one 01 node
 unfoldable pub read_setting : Edition → List ℕ → Read Entry
@@ -41,14 +44,14 @@ unfoldable pub read_body : Edition → List ℕ → ℕ → List ℕ → Read En
 read_body e stages stage b = then_read (read_kind e (kind_of stage) stages stage b) (λ x n. must (leb (length b) n) (refused No.Leftover n) (found x n))
 
 -- one record, where the entries before it count as these stages; its body is the part of the sheet that its head names
-abbrev pub on_head : Edition → Head → List ℕ → List ℕ → Read Entry
-on_head e (head.Record stage start len) stages s = placed_from start (read_body e stages stage (part s start len))
-on_head e (head.Refused k p) stages s = refused k p
+abbrev pub on_head : Edition → Result Head Refused → List ℕ → List ℕ → Read Entry
+on_head e (Ok h) stages s = placed_from h.start (read_body e stages h.stage (part s h.start h.len))
+on_head e (Err r) stages s = refused r.number r.place
 
 unfoldable pub read_record : Edition → List ℕ → List ℕ → ℕ → Read Entry
 read_record e stages s at = on_head e (read_head s at) stages s
 
 -- an answer with the entry's stage alone
-abbrev pub passed_of : Read Entry → Passed
-passed_of (found e n) = passed.Entry (entry_stage e) n
-passed_of (refused k p) = passed.Refused k p
+abbrev pub passed_of : Read Entry → Result Passed Refused
+passed_of (found e n) = Ok (record { stage = entry_stage e; next = n })
+passed_of (refused k p) = refusal k p

@@ -1,8 +1,7 @@
 -- The whole sheet: its records one after another.
-use Rattle.std.specs.Prelude.{ℕ, zero, suc, List, [], ◌∷◌, ◌++◌, map, length, ltb, leb}
-use Rattle.low.specs.declared.Counted.{Counted}
-use Rattle.low.specs.declared.Counted.TheVariants as counted
-use Rattle.low.specs.Read.{Read, found, refused, must, then_read, read_as}
+use Rattle.std.specs.Prelude.{ℕ, zero, suc, List, [], ◌∷◌, ◌++◌, map, length, ltb, leb, Result, Ok}
+use Rattle.low.specs.declared.Refused.{Refused}
+use Rattle.low.specs.Read.{Read, found, refused, must, then_read, read_as, refusal}
 use Rattle.types.specs.Edition.{Edition, plain}
 use Rattle.value.specs.Pattern.{pick}
 use Rattle.value.specs.Refusals as No
@@ -35,6 +34,6 @@ unfoldable pub read_sheet : List ℕ → Read Sheet
 read_sheet s = must (leb (length s) 16384) (refused No.SheetTooLong 0) (read_from plain 0 s)
 
 -- an answer with the number of entries alone
-abbrev pub counted_of : Read Sheet → Counted
-counted_of (found sh n) = counted.Done (length sh.entries)
-counted_of (refused k p) = counted.Refused k p
+abbrev pub counted_of : Read Sheet → Result ℕ Refused
+counted_of (found sh n) = Ok (length sh.entries)
+counted_of (refused k p) = refusal k p

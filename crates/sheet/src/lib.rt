@@ -12,7 +12,7 @@ ghost use Rattle.std.specs.Prelude.{◌≡◌};
 ghost use Rattle.sheet.specs.Sheet.{read_sheet, counted_of};
 
 pub use literals::literal_at;
-use low::Counted;
+use low::Refused;
 pub use names::names_marked;
 use operand::Instance;
 use record::read_record;
@@ -21,24 +21,25 @@ pub use stage::kind_of;
 use value::refusals;
 
 // What an entry is: a setting, or an expression.
-#[derive(Clone, Copy)]
+#[derive(Clone, Copy, Debug, PartialEq, Eq)]
 pub enum Kind {
     Setting,
     Expression,
 }
 
-// What a record's first five bytes answer: its stage byte and where its body is, or a refusal's number and its place.
-#[derive(Clone, Copy)]
-pub enum Head {
-    Record { stage: u8, start: usize, len: usize },
-    Refused(u8, usize),
+// What a record's first five bytes say: its stage byte, where its body starts and how long it is.
+#[derive(Clone, Copy, Debug, PartialEq, Eq)]
+pub struct Head {
+    pub stage: u8,
+    pub start: usize,
+    pub len: usize,
 }
 
-// What reading a record answers: the stage that it counts as and the place after it, or a refusal's number and its place.
-#[derive(Clone, Copy)]
-pub enum Passed {
-    Entry(u8, usize),
-    Refused(u8, usize),
+// A record that was read: the stage that it counts as and the place after it.
+#[derive(Clone, Copy, Debug, PartialEq, Eq)]
+pub struct Passed {
+    pub stage: u8,
+    pub next: usize,
 }
 
 // A literal's value and the place after it.
@@ -49,29 +50,30 @@ pub struct Literal {
 }
 
 // Checks a whole sheet from its first byte on: the number of its entries, or the first check that fails.
-pub fn check(s: &[u8]) -> Counted
+pub fn check(s: &[u8]) -> Result<usize, Refused>
     ensures { result ≡ counted_of (read_sheet s.now) }
 {
     if 16384 < s.len() {
-        return Counted::Refused(refusals::SHEET_TOO_LONG, 0);
+        return Err(Refused {
+            number: refusals::SHEET_TOO_LONG,
+            place: 0,
+        });
     }
     let mut stages = [0u8; 128];
     let mut n: usize = 0;
     let mut at: usize = 0;
+    // Records differ in length, so a step is no count.
     while at < s.len() {
         if 128 <= n {
-            return Counted::Refused(refusals::TOO_MANY_ENTRIES, at);
+            return Err(Refused {
+                number: refusals::TOO_MANY_ENTRIES,
+                place: at,
+            });
         }
-        match read_record(s, &stages[..n], at) {
-            Passed::Refused(k, p) => {
-                return Counted::Refused(k, p);
-            }
-            Passed::Entry(stage, next) => {
-                stages[n] = stage;
-                n += 1;
-                at = next;
-            }
-        }
+        let passed = read_record(s, &stages[..n], at)?;
+        stages[n] = passed.stage;
+        n += 1;
+        at = passed.next;
     }
-    Counted::Done(n)
+    Ok(n)
 }

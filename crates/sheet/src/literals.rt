@@ -6,7 +6,7 @@ ghost use Rattle.sheet.specs.Node.{literal_head, all_proper, components, literal
 ghost use Rattle.sheet.specs.Accepted.{LiteralAt};
 
 use crate::Literal;
-use low::{Seen, get64, remaining};
+use low::{Refused, get, remaining};
 use operand::Instance;
 use value::refusals;
 
@@ -50,38 +50,40 @@ fn all_proper(b: &[u8], at: usize, n: usize, ty: u8) -> bool
     requires { at + 8 * n ≤ length b.now }
     ensures { result ≡ all_proper ty n b.now at }
 {
-    let mut p = at;
-    let mut more = n;
-    while 0 < more {
-        let w = get64(b, p);
-        if !value::proper(ty, w) {
-            return false;
-        }
-        p += 8;
-        more -= 1;
-    }
-    true
+    (0..n).all(|i| value::proper(ty, get::<8>(b, at + 8 * i)))
 }
 
 // Judges the literal node at a place, as a setting's or as any.
-pub(crate) fn read_literal(b: &[u8], at: usize, setting: bool) -> Seen
+pub(crate) fn read_literal(b: &[u8], at: usize, setting: bool) -> Result<usize, Refused>
     ensures { result ≡ seen_of (read_literal plain setting b.now at) }
 {
     if remaining(b, at) < 4 {
-        return Seen::Refused(refusals::CUT_SHORT, b.len());
+        return Err(Refused {
+            number: refusals::CUT_SHORT,
+            place: b.len(),
+        });
     }
     let h = literal_head(b, at);
     if !literal_ok(setting, h) {
-        return Seen::Refused(refusals::BAD_VALUE, at);
+        return Err(Refused {
+            number: refusals::BAD_VALUE,
+            place: at,
+        });
     }
     let n = area(h.cols, h.rows);
     if remaining(b, at + 4) < 8 * n {
-        return Seen::Refused(refusals::CUT_SHORT, b.len());
+        return Err(Refused {
+            number: refusals::CUT_SHORT,
+            place: b.len(),
+        });
     }
     if !all_proper(b, at + 4, n, h.ty) {
-        return Seen::Refused(refusals::BAD_VALUE, at);
+        return Err(Refused {
+            number: refusals::BAD_VALUE,
+            place: at,
+        });
     }
-    Seen::Good(at + 4 + 8 * n)
+    Ok(at + 4 + 8 * n)
 }
 
 // The n components from a place on, a NaN as it is kept, and 0 for those not in use.
@@ -90,10 +92,8 @@ fn load(b: &[u8], at: usize, n: usize, ty: u8) -> [u64; 16]
     ensures { result ≡ components ty n b.now at ++ replicate (16 - n) 0 }
 {
     let mut out = [0u64; 16];
-    let mut i: usize = 0;
-    while i < n {
-        out[i] = value::kept(ty, get64(b, at + 8 * i));
-        i += 1;
+    for i in 0..n {
+        out[i] = value::kept(ty, get::<8>(b, at + 8 * i));
     }
     out
 }

@@ -38,6 +38,7 @@ fn scan(b: &[u8], marks: &[bool; 128]) -> bool
     ensures { TreeMarked plain b.now marks.now result }
 {
     let mut at: usize = 0;
+    // Nodes differ in length, so a step is no count.
     while at < b.len() {
         if marked_at(b, at, marks) {
             return true;

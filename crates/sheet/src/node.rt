@@ -5,7 +5,7 @@ ghost use Rattle.types.specs.Edition.{plain};
 ghost use Rattle.sheet.specs.Node.{operator_known, read_reference, read_operator, read_node};
 
 use crate::literals::read_literal;
-use low::{Seen, remaining};
+use low::{Refused, remaining};
 use value::refusals;
 
 // Whether an operator code is known, before one operand or two.
@@ -16,32 +16,53 @@ fn known_operator(two: bool, op: u8) -> bool
 }
 
 // Judges the reference at a place: it names an earlier entry, whose stage is not above the own one.
-fn read_reference(b: &[u8], stages: &[u8], own: u8, at: usize) -> Seen
+fn read_reference(b: &[u8], stages: &[u8], own: u8, at: usize) -> Result<usize, Refused>
     ensures { result ≡ seen_of (read_reference stages.now own b.now at) }
 {
     if remaining(b, at) < 2 {
-        return Seen::Refused(refusals::CUT_SHORT, b.len());
+        return Err(Refused {
+            number: refusals::CUT_SHORT,
+            place: b.len(),
+        });
     }
     let k = b[at + 1] as usize;
     if stages.len() <= k {
-        return Seen::Refused(refusals::BAD_REF, at);
+        return Err(Refused {
+            number: refusals::BAD_REF,
+            place: at,
+        });
     }
     if own < stages[k] {
-        return Seen::Refused(refusals::BAD_STAGE, at);
+        return Err(Refused {
+            number: refusals::BAD_STAGE,
+            place: at,
+        });
     }
-    Seen::Good(at + 2)
+    Ok(at + 2)
 }
 
 // Judges the node at a place and all below it, where so many levels are left.
 #[cycle(read_node_read_operands)]
-pub(crate) fn read_node(b: &[u8], stages: &[u8], own: u8, at: usize, levels: usize) -> Seen
+pub(crate) fn read_node(
+    b: &[u8],
+    stages: &[u8],
+    own: u8,
+    at: usize,
+    levels: usize,
+) -> Result<usize, Refused>
     ensures { result ≡ seen_of (read_node plain levels stages.now own b.now at) }
 {
     if levels == 0 {
-        return Seen::Refused(refusals::TOO_DEEP, at);
+        return Err(Refused {
+            number: refusals::TOO_DEEP,
+            place: at,
+        });
     }
     if remaining(b, at) < 1 {
-        return Seen::Refused(refusals::CUT_SHORT, b.len());
+        return Err(Refused {
+            number: refusals::CUT_SHORT,
+            place: b.len(),
+        });
     }
     let tag = b[at];
     match tag {
@@ -49,27 +70,40 @@ pub(crate) fn read_node(b: &[u8], stages: &[u8], own: u8, at: usize, levels: usi
         2 => read_reference(b, stages, own, at),
         3 => read_operands(b, stages, own, at, levels - 1, false),
         4 => read_operands(b, stages, own, at, levels - 1, true),
-        _ => Seen::Refused(refusals::BAD_NODE, at),
+        _ => Err(Refused {
+            number: refusals::BAD_NODE,
+            place: at,
+        }),
     }
 }
 
 // Judges the operator of the node at a place and its operands, left before right.
 #[cycle(read_node_read_operands)]
-fn read_operands(b: &[u8], stages: &[u8], own: u8, at: usize, levels: usize, two: bool) -> Seen
+fn read_operands(
+    b: &[u8],
+    stages: &[u8],
+    own: u8,
+    at: usize,
+    levels: usize,
+    two: bool,
+) -> Result<usize, Refused>
     ensures { result ≡ seen_of (read_operator two (read_node plain levels stages.now own b.now) b.now at) }
 {
     if remaining(b, at) < 2 {
-        return Seen::Refused(refusals::CUT_SHORT, b.len());
+        return Err(Refused {
+            number: refusals::CUT_SHORT,
+            place: b.len(),
+        });
     }
     if !known_operator(two, b[at + 1]) {
-        return Seen::Refused(refusals::BAD_NODE, at);
+        return Err(Refused {
+            number: refusals::BAD_NODE,
+            place: at,
+        });
     }
-    let first = read_node(b, stages, own, at + 2, levels);
+    let next = read_node(b, stages, own, at + 2, levels)?;
     if two {
-        let Seen::Good(m) = first else {
-            return first;
-        };
-        return read_node(b, stages, own, m, levels);
+        return read_node(b, stages, own, next, levels);
     }
-    first
+    Ok(next)
 }

@@ -10,7 +10,7 @@ use crate::literals::read_literal;
 use crate::node::read_node;
 use crate::stage::{counts_as, kind_of, stage_known};
 use crate::{Head, Kind, Passed};
-use low::{Seen, remaining};
+use low::{Refused, remaining};
 use value::refusals;
 
 // The length of the body of the record at a place.
@@ -18,32 +18,44 @@ fn body_len(s: &[u8], at: usize) -> usize
     requires { at + 5 ≤ length s.now }
     ensures { (result ≡ body_len s.now at) × (result < 65536) }
 {
-    low::get16(s, at + 3) as usize
+    low::get::<2>(s, at + 3) as usize
 }
 
 // Judges the five bytes before a body, and that the body is there: its stage byte, where it starts and its length.
-pub fn read_head(s: &[u8], at: usize) -> Head
+pub fn read_head(s: &[u8], at: usize) -> Result<Head, Refused>
     ensures { result ≡ read_head s.now at }
 {
     if remaining(s, at) < 5 {
-        return Head::Refused(refusals::CUT_SHORT, s.len());
+        return Err(Refused {
+            number: refusals::CUT_SHORT,
+            place: s.len(),
+        });
     }
     if !((s[at] == 0xD5) & (s[at + 1] == 0x17)) {
-        return Head::Refused(refusals::BAD_MARK, at);
+        return Err(Refused {
+            number: refusals::BAD_MARK,
+            place: at,
+        });
     }
     let stage = s[at + 2];
     if !stage_known(stage) {
-        return Head::Refused(refusals::BAD_STAGE, at + 2);
+        return Err(Refused {
+            number: refusals::BAD_STAGE,
+            place: at + 2,
+        });
     }
     let len = body_len(s, at);
     if remaining(s, at + 5) < len {
-        return Head::Refused(refusals::CUT_SHORT, s.len());
+        return Err(Refused {
+            number: refusals::CUT_SHORT,
+            place: s.len(),
+        });
     }
-    Head::Record {
-        stage: stage,
+    Ok(Head {
+        stage,
         start: at + 5,
-        len: len,
-    }
+        len,
+    })
 }
 
 // A record's body as a part of the sheet: it starts at this place and has this length.
@@ -54,20 +66,26 @@ pub fn body(s: &[u8], start: usize, len: usize) -> &[u8]
 }
 
 // Judges a setting's body: one literal node of a scalar.
-fn read_setting(b: &[u8]) -> Seen
+fn read_setting(b: &[u8]) -> Result<usize, Refused>
     ensures { result ≡ seen_of (read_setting plain b.now) }
 {
     if b.len() == 0 {
-        return Seen::Refused(refusals::CUT_SHORT, 0);
+        return Err(Refused {
+            number: refusals::CUT_SHORT,
+            place: 0,
+        });
     }
     if b[0] != 1 {
-        return Seen::Refused(refusals::BAD_NODE, 0);
+        return Err(Refused {
+            number: refusals::BAD_NODE,
+            place: 0,
+        });
     }
     read_literal(b, 0, true)
 }
 
 // Judges what stands in a body, by its record's stage byte.
-fn read_kind(b: &[u8], stages: &[u8], stage: u8) -> Seen
+fn read_kind(b: &[u8], stages: &[u8], stage: u8) -> Result<usize, Refused>
     ensures { result ≡ seen_of (read_kind plain (kind_of stage) stages.now stage b.now) }
 {
     match kind_of(stage) {
@@ -77,30 +95,31 @@ fn read_kind(b: &[u8], stages: &[u8], stage: u8) -> Seen
 }
 
 // Judges a record's body: what its kind asks, and nothing after it.
-fn read_body(b: &[u8], stages: &[u8], stage: u8) -> Seen
+fn read_body(b: &[u8], stages: &[u8], stage: u8) -> Result<usize, Refused>
     ensures { result ≡ seen_of (read_body plain stages.now stage b.now) }
 {
-    let seen = read_kind(b, stages, stage);
-    let Seen::Good(n) = seen else {
-        return seen;
-    };
+    let n = read_kind(b, stages, stage)?;
     if n < b.len() {
-        return Seen::Refused(refusals::LEFTOVER, n);
+        return Err(Refused {
+            number: refusals::LEFTOVER,
+            place: n,
+        });
     }
-    seen
+    Ok(n)
 }
 
 // Judges the record at a place, where the entries before it count as these stages.
-pub(crate) fn read_record(s: &[u8], stages: &[u8], at: usize) -> Passed
+pub(crate) fn read_record(s: &[u8], stages: &[u8], at: usize) -> Result<Passed, Refused>
     ensures { result ≡ passed_of (read_record plain stages.now s.now at) }
 {
-    match read_head(s, at) {
-        Head::Refused(k, p) => Passed::Refused(k, p),
-        Head::Record { stage, start, len } => {
-            match read_body(body(s, start, len), stages, stage) {
-                Seen::Refused(k, p) => Passed::Refused(k, start + p),
-                Seen::Good(n) => Passed::Entry(counts_as(stage), start + n),
-            }
-        }
-    }
+    let head = read_head(s, at)?;
+    let b = body(s, head.start, head.len);
+    let n = read_body(b, stages, head.stage).map_err(|r| Refused {
+        number: r.number,
+        place: head.start + r.place,
+    })?;
+    Ok(Passed {
+        stage: counts_as(head.stage),
+        next: head.start + n,
+    })
 }

@@ -5,7 +5,7 @@ use Prim.Native.Nat.{◌^◌}
 use lib.IntN.{pos, negsuc, ◌*ℤ◌}
 use lib.Signed.{shr_z}
 use mir.Syntax.{w32, w64}
-use Rattle.integer.specs.declared.Whole.TheVariants.{Value, Over}
+use Rattle.std.proofs.Common.{Some, None}
 use Rattle.integer.specs.Range.{whole_of}
 use Rattle.integer.specs.Wrap.{wrap_u, wrap_s}
 use Rattle.shift.specs.Shift.{shl_over, shl_over_u, shl_wrapping, shl_wrapping_u, shr_modulo, shr_modulo_u}
@@ -19,7 +19,7 @@ pub exact_32_unsigned : (shl_over_u w32 1 31 ≡ false) × (shl_over_u w32 1 32 
 exact_32_unsigned = (refl, refl)
 
 -- every count above 63 refused; a product of 2^63 taken
-pub exact_64 : (whole_of (pos 0 *ℤ pos (2 ^ 64)) ≡ Value (pos 0)) × (whole_of (pos 1 *ℤ pos (2 ^ 63)) ≡ Over)
+pub exact_64 : (whole_of (pos 0 *ℤ pos (2 ^ 64)) ≡ Some (pos 0)) × (whole_of (pos 1 *ℤ pos (2 ^ 63)) ≡ None)
 exact_64 = (refl, refl)
 
 -- 1 shifted, whatever the number, which has 2; 0 for a count above 31; 64 bits' count taken modulo 64, which has 1

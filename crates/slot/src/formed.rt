@@ -29,10 +29,8 @@ fn components_formed(ty: u8, n: usize, xs: [u64; 16]) -> bool
     ensures { result ≡ components_formed ty n xs }
 {
     let mut good = true;
-    let mut i = 0;
-    while i < 16 {
+    for i in 0..16 {
         good = good & component_formed(ty, n, xs, i);
-        i += 1;
     }
     good
 }
@@ -41,16 +39,14 @@ fn components_formed(ty: u8, n: usize, xs: [u64; 16]) -> bool
 fn value_formed(v: Instance) -> bool
     ensures { result ≡ value_formed plain v }
 {
-    let xs = v.comps;
-    operand::shape_ok(v.ty, v.cols, v.rows) & components_formed(v.ty, area(v.cols, v.rows), xs)
+    operand::shape_ok(v.ty, v.cols, v.rows) & components_formed(v.ty, area(v.cols, v.rows), v.comps)
 }
 
 // Whether a value has type, columns, rows and components 0.
 fn blank(v: Instance) -> bool
     ensures { result ≡ blank v }
 {
-    let xs = v.comps;
-    (v.ty == 0) & (v.cols == 0) & (v.rows == 0) & components_formed(0, 0, xs)
+    (v.ty == 0) & (v.cols == 0) & (v.rows == 0) & components_formed(0, 0, v.comps)
 }
 
 // Whether a value is a scalar of an integer type, as a shift's refusal carries it.
@@ -81,10 +77,8 @@ fn detail_formed(number: u8, detail: u32) -> bool
 pub(crate) fn formed(o: Outcome) -> bool
     ensures { result ≡ formed plain o }
 {
-    let v = o.value;
-    let s = o.status;
-    if s == 0 {
-        return (o.detail == 0) & value_formed(v);
+    if o.status == 0 {
+        return (o.detail == 0) & value_formed(o.value);
     }
-    (s <= 11) & detail_formed(s, o.detail) & beside_formed(s, v)
+    (o.status <= 11) & detail_formed(o.status, o.detail) & beside_formed(o.status, o.value)
 }

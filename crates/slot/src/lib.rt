@@ -15,16 +15,14 @@ fn said_by(b: &[u8]) -> Outcome
     requires { length b.now ≡ 136 }
     ensures { result ≡ said_by b.now }
 {
-    let detail = low::get32(b, 4) as u32;
-    let comps = low::get_words(b, 8);
     Outcome {
         status: b[0],
-        detail,
+        detail: low::get::<4>(b, 4) as u32,
         value: operand::Instance {
             ty: b[1],
             cols: b[2],
             rows: b[3],
-            comps,
+            comps: low::get_words(b, 8),
         },
     }
 }
@@ -34,14 +32,12 @@ fn say(b: &mut [u8], o: Outcome)
     requires { length b.old ≡ 136 }
     ensures { b.new ≡ bytes_of o }
 {
-    let value = o.value;
-    let comps = value.comps;
     b[0] = o.status;
-    b[1] = value.ty;
-    b[2] = value.cols;
-    b[3] = value.rows;
-    low::put32(b, 4, o.detail as u64);
-    low::put_words(b, 8, comps);
+    b[1] = o.value.ty;
+    b[2] = o.value.cols;
+    b[3] = o.value.rows;
+    low::put::<4>(b, 4, o.detail as u64);
+    low::put_words(b, 8, o.value.comps);
 }
 
 // What slot k says, whatever its bytes are. Past the last whole slot that is all zeros, which is not well formed.
@@ -49,20 +45,10 @@ pub fn read(results: &[u8], k: usize) -> Outcome
     ensures { result ≡ said_by (slot results.now k) }
 {
     if results.len() / 136 <= k {
-        return Outcome {
-            status: 0,
-            detail: 0,
-            value: operand::Instance {
-                ty: 0,
-                cols: 0,
-                rows: 0,
-                comps: [0u64; 16],
-            },
-        };
+        return operand::refused(0, 0);
     }
     let a = 136 * k;
-    let e = a + 136;
-    said_by(&results[a..e])
+    said_by(&results[a..a + 136])
 }
 
 // The outcome becomes slot k; no other byte changes. Past the last whole slot nothing is written.
@@ -73,8 +59,7 @@ pub fn put(results: &mut [u8], k: usize, o: Outcome)
         return;
     }
     let a = 136 * k;
-    let e = a + 136;
-    say(&mut results[a..e], o);
+    say(&mut results[a..a + 136], o);
 }
 
 // Whether slot k is well formed; past the last whole slot none is.

@@ -10,7 +10,9 @@ use lib.Dec.{lit<}
 use borrow.Author.Tests.{lt-ltb, le-ltb}
 use Rattle.io.specs.Digits.{last_digits, hex_digit_ascii, IsDigitCount}
 use Rattle.integer.proofs.Order.{le_or_lt}
-use Rattle.text.specs.Text.{Put, decimals, dec, hex, digits_of}
+use Rattle.text.specs.declared.put.Text.{Text}
+use Rattle.text.specs.Inside.{Puts}
+use Rattle.text.specs.Text.{decimals, dec, hex, digits_of}
 
 -- a digit below 10
 glyph_small : (d : ℕ) → d < 10 → hex_digit_ascii d ≡ 48 + d
@@ -49,21 +51,21 @@ dec_digits : (n k : ℕ) → k ≤ 20 → IsDigitCount 10 1 n k → last_digits 
 unfolding dec
 dec_digits n k h w = all_digits 19 n k h w
 
--- what the library spells, put at a place
-pub decimal_put : {l m s : List ℕ} {a b : ℕ} (n k : ℕ) → k ≤ 20 → IsDigitCount 10 1 n k → s ≡ last_digits 10 k n → Put l m a b s → Put l m a b (dec n)
+-- what the library spells is put
+pub decimal_put : {p q : Text} {s : List ℕ} (n k : ℕ) → k ≤ 20 → IsDigitCount 10 1 n k → s ≡ last_digits 10 k n → Puts p q s → Puts p q (dec n)
 decimal_put n k h w e p = rw (← dec_digits n k h w, ← e) p
 
-pub hex_put : {l m s : List ℕ} {a b : ℕ} (x k : ℕ) → k ≡ 16 → s ≡ last_digits 16 k x → Put l m a b s → Put l m a b (hex x)
+pub hex_put : {p q : Text} {s : List ℕ} (x k : ℕ) → k ≡ 16 → s ≡ last_digits 16 k x → Puts p q s → Puts p q (hex x)
 unfolding hex
-hex_put {l} {m} {s} {a} {b} x k h e p = subst (λ (t : List ℕ). Put l m a b t) (e ∙ ap (λ (j : ℕ). last_digits 16 j x) h) p
+hex_put {p} {q} x k h e r = subst (λ (t : List ℕ). Puts p q t) (e ∙ ap (λ (j : ℕ). last_digits 16 j x) h) r
 
 -- in the one base or the other
-module _ {l m : List ℕ} {a b : ℕ} (x : ℕ) (hexadecimal : Bool) where
-  pub in_hex : hexadecimal ≡ true → Put l m a b (32 ∷ hex x) → Put l m a b (32 ∷ digits_of hexadecimal x)
-  in_hex e p = rw e p
+module _ {p q : Text} (x : ℕ) (hexadecimal : Bool) where
+  pub in_hex : hexadecimal ≡ true → Puts p q (32 ∷ hex x) → Puts p q (32 ∷ digits_of hexadecimal x)
+  in_hex e r = rw e r
 
-  pub in_decimal : hexadecimal ≡ false → Put l m a b (32 ∷ dec x) → Put l m a b (32 ∷ digits_of hexadecimal x)
-  in_decimal e p = rw e p
+  pub in_decimal : hexadecimal ≡ false → Puts p q (32 ∷ dec x) → Puts p q (32 ∷ digits_of hexadecimal x)
+  in_decimal e r = rw e r
 
 -- the fewest digits are no more than hold the number
 pub digits_few : (b least n k m : ℕ) → zero < b → IsDigitCount b least n k → least ≤ m → n < b ^ m → k ≤ m

@@ -9,16 +9,20 @@ ghost use Rattle.std.specs.Prelude.{◌≤◌};
 ghost use Rattle.io.specs.Counts.{IsPrefixLen};
 ghost use Rattle.text.specs.Text.{Put, listing, refusal_line, moved_line};
 
+use put::Text;
+
 // The listing of a results buffer. Says its length.
 pub fn list(out: &mut [u8; 65536], results: &[u8]) -> usize
     ensures put { Put out.old out.new 0 result (listing results.now) }
     ensures prefix_len { IsPrefixLen result out.new }
     ensures upper_bound { result ≤ 65536 }
 {
+    let mut text = Text { out, at: 0 };
     let n = lines::entries(results);
-    let a = put::labelled(out, 0, b"sheet ", n as u64);
-    let b = put::text(out, a, b"\n");
-    lines::put(out, b, results, n)
+    text.labelled(b"sheet ", n as u64);
+    text.bytes(b"\n");
+    text.lines(results, n);
+    text.at
 }
 
 // What a refused sheet or change lists as. Says its length.
@@ -27,8 +31,10 @@ pub fn refuse(out: &mut [u8; 65536], number: u8) -> usize
     ensures prefix_len { IsPrefixLen result out.new }
     ensures upper_bound { result ≤ 65536 }
 {
-    let a = put::labelled(out, 0, b"refused ", number as u64);
-    put::text(out, a, b"\n")
+    let mut text = Text { out, at: 0 };
+    text.labelled(b"refused ", u64::from(number));
+    text.bytes(b"\n");
+    text.at
 }
 
 // What is said of a change that n entries depend on, of which the marked ones but the setting's own moved. Says its length.
@@ -37,7 +43,9 @@ pub fn moved(out: &mut [u8; 65536], n: u64, marks: &[bool; 128], own: u64) -> us
     ensures prefix_len { IsPrefixLen result out.new }
     ensures upper_bound { result ≤ 65536 }
 {
-    let a = put::labelled(out, 0, b"moved ", n);
-    let b = movers::put(out, a, marks, own);
-    put::text(out, b, b"\n")
+    let mut text = Text { out, at: 0 };
+    text.labelled(b"moved ", n);
+    text.movers(marks, own);
+    text.bytes(b"\n");
+    text.at
 }

@@ -22,7 +22,7 @@ past_operators op ty h =
       and-false (leb 1 op),
       and-false (leb 8 op),
       and-false (leb 14 op),
-      and-false (eqb (class_of ty) bools),
+      and-false (bools (class_of ty)),
       and-false (integer_of ty && leb 3 op),
       and-false (float_of ty && leb 3 op),
     )

@@ -2,7 +2,7 @@
 use mathlib.Core.Path.{◌≡◌, refl}
 use mathlib.Core.Bool.{true, false}
 use lib.Dec.{eqb}
-use Rattle.types.specs.declared.CommonType.TheVariants.{Code, Nothing}
+use Rattle.std.specs.Prelude.{Some, None}
 use Rattle.types.specs.Types.{known_of, class_of, width_of, most_of, float_of, integer_of, concrete_of, goes_to, common_type, right_of, unary_right_of, result_type}
 
 -- Bool, whose code is 0, taken for no type
@@ -38,7 +38,7 @@ pub goes_nowhere : (goes_to 1 0 ≡ false) × (goes_to 2 3 ≡ false) × (goes_t
 goes_nowhere = (refl, refl, refl, refl)
 
 -- the left's type always; a common type of concrete types; a code that names no type as its own common type
-pub common_right : (common_type 1 5 ≡ Code 5) × (common_type 3 4 ≡ Nothing) × (common_type 7 7 ≡ Nothing)
+pub common_right : (common_type 1 5 ≡ Some 5) × (common_type 3 4 ≡ None) × (common_type 7 7 ≡ None)
 unfolding common_type
 common_right = (refl, refl, refl)
 

@@ -31,13 +31,13 @@ float_codes =
     by_code (λ ty. ((eqb ty 2 || eqb ty 5) || eqb ty 6) ≡ float_of ty) refl refl refl refl refl refl refl
     (λ n. rw (other n 2 (omega arith), other n 5 (omega arith), other n 6 (omega arith)))
 
-pub signed_codes : (ty : ℕ) → (eqb ty 1 || eqb ty 3) ≡ eqb (class_of ty) signed_ints
+pub signed_codes : (ty : ℕ) → (eqb ty 1 || eqb ty 3) ≡ signed_ints (class_of ty)
 signed_codes =
-    by_code (λ ty. (eqb ty 1 || eqb ty 3) ≡ eqb (class_of ty) signed_ints) refl refl refl refl refl refl refl
+    by_code (λ ty. (eqb ty 1 || eqb ty 3) ≡ signed_ints (class_of ty)) refl refl refl refl refl refl refl
     (λ n. rw (other n 1 (omega arith), other n 3 (omega arith)))
 
-pub truth_code : (ty : ℕ) → eqb ty 0 ≡ eqb (class_of ty) bools
-truth_code = by_code (λ ty. eqb ty 0 ≡ eqb (class_of ty) bools) refl refl refl refl refl refl refl (λ n. other n 0 (omega arith))
+pub truth_code : (ty : ℕ) → eqb ty 0 ≡ bools (class_of ty)
+truth_code = by_code (λ ty. eqb ty 0 ≡ bools (class_of ty)) refl refl refl refl refl refl refl (λ n. other n 0 (omega arith))
 
-pub unsigned_code : (ty : ℕ) → eqb ty 4 ≡ eqb (class_of ty) unsigned_ints
-unsigned_code = by_code (λ ty. eqb ty 4 ≡ eqb (class_of ty) unsigned_ints) refl refl refl refl refl refl refl (λ n. other n 4 (omega arith))
+pub unsigned_code : (ty : ℕ) → eqb ty 4 ≡ unsigned_ints (class_of ty)
+unsigned_code = by_code (λ ty. eqb ty 4 ≡ unsigned_ints (class_of ty)) refl refl refl refl refl refl refl (λ n. other n 4 (omega arith))

@@ -7,33 +7,26 @@ ghost use Rattle.types.specs.Types.{class_of, common_type, concrete_of, float_of
 // How many types there are: their codes are the numbers below.
 const TYPES: u8 = 7;
 
-// Classes of types; 0 is that of a code that names no type.
-const TRUTH: u8 = 1;
-
-const SIGNED: u8 = 2;
-
-const UNSIGNED: u8 = 3;
-
-const FLOAT: u8 = 4;
+// The classes of types.
+#[derive(Clone, Copy, Debug, PartialEq, Eq)]
+pub enum TypeClass {
+    Truth,
+    Signed,
+    Unsigned,
+    Float,
+}
 
 // What is known of a type: its class, the bits of its patterns, the largest pattern, and whether it is concrete.
 #[derive(Clone, Copy)]
 pub struct Row {
-    pub class: u8,
+    pub class: Option<TypeClass>,
     pub width: u8,
     pub most: u64,
     pub concrete: bool,
 }
 
-// The code of a common type, where there is one.
-#[derive(Clone, Copy)]
-pub enum CommonType {
-    Code(u8),
-    Nothing,
-}
-
 // A row of the table.
-fn row_with(class: u8, width: u8, most: u64, concrete: bool) -> Row
+fn row_with(class: Option<TypeClass>, width: u8, most: u64, concrete: bool) -> Row
     ensures { result ≡ record { class = class; width = width; most = most; concrete = concrete } }
 {
     Row {
@@ -49,14 +42,14 @@ fn row_of(ty: u8) -> Row
     ensures { result ≡ row_of ty }
 {
     match ty {
-        0 => row_with(TRUTH, 1, 1, true),
-        1 => row_with(SIGNED, 64, 0xffff_ffff_ffff_ffff, false),
-        2 => row_with(FLOAT, 64, 0xffff_ffff_ffff_ffff, false),
-        3 => row_with(SIGNED, 32, 0xffff_ffff, true),
-        4 => row_with(UNSIGNED, 32, 0xffff_ffff, true),
-        5 => row_with(FLOAT, 32, 0xffff_ffff, true),
-        6 => row_with(FLOAT, 16, 0xffff, true),
-        _ => row_with(0, 0, 0, false),
+        0 => row_with(Some(TypeClass::Truth), 1, 1, true),
+        1 => row_with(Some(TypeClass::Signed), 64, 0xffff_ffff_ffff_ffff, false),
+        2 => row_with(Some(TypeClass::Float), 64, 0xffff_ffff_ffff_ffff, false),
+        3 => row_with(Some(TypeClass::Signed), 32, 0xffff_ffff, true),
+        4 => row_with(Some(TypeClass::Unsigned), 32, 0xffff_ffff, true),
+        5 => row_with(Some(TypeClass::Float), 32, 0xffff_ffff, true),
+        6 => row_with(Some(TypeClass::Float), 16, 0xffff, true),
+        _ => row_with(None, 0, 0, false),
     }
 }
 
@@ -67,8 +60,8 @@ pub fn known(ty: u8) -> bool
     ty < TYPES
 }
 
-// The class of a type.
-pub fn class(ty: u8) -> u8
+// The class of a type; none for a code that names no type.
+pub fn class(ty: u8) -> Option<TypeClass>
     ensures { result ≡ class_of ty }
 {
     row_of(ty).class
@@ -114,34 +107,39 @@ pub fn goes_to(a: u8, b: u8) -> bool
     ensures { result ≡ goes_to a b }
 {
     let x = row_of(a);
-    let y = class(b);
-    (a < TYPES)
-        & !x.concrete
-        & (a != b)
-        & ((y == FLOAT) | (x.class == SIGNED) & ((y == SIGNED) | (y == UNSIGNED)))
+    let fits = match class(b) {
+        Some(TypeClass::Float) => true,
+        Some(TypeClass::Signed | TypeClass::Unsigned) => x.class == Some(TypeClass::Signed),
+        _ => false,
+    };
+    (a < TYPES) & !x.concrete & (a != b) & fits
 }
 
-// The common type of two operands.
-pub fn common(a: u8, b: u8) -> CommonType
+// The common type of two operands, where they have one.
+pub fn common(a: u8, b: u8) -> Option<u8>
     ensures { result ≡ common_type a b }
 {
     if (a < TYPES) & (a == b) | goes_to(b, a) {
-        return CommonType::Code(a);
+        return Some(a);
     }
     if goes_to(a, b) {
-        return CommonType::Code(b);
+        return Some(b);
     }
-    CommonType::Nothing
+    None
 }
 
 // Whether a type has the right to a binary operator.
 pub fn right(op: u8, ty: u8) -> bool
     ensures { result ≡ right_of op ty }
 {
-    let c = class(ty);
-    (c == TRUTH) & ((1 <= op) & (op <= 2) | (8 <= op) & (op <= 9) | (14 <= op) & (op <= 15))
-        | ((c == SIGNED) | (c == UNSIGNED)) & (3 <= op) & (op <= 18)
-        | (c == FLOAT) & (3 <= op) & (op <= 13)
+    match class(ty) {
+        Some(TypeClass::Truth) => (1 <= op) & (op <= 2)
+            | (8 <= op) & (op <= 9)
+            | (14 <= op) & (op <= 15),
+        Some(TypeClass::Signed | TypeClass::Unsigned) => (3 <= op) & (op <= 18),
+        Some(TypeClass::Float) => (3 <= op) & (op <= 13),
+        None => false,
+    }
 }
 
 // Whether a type has the right to a unary operator. It is asked by comparisons, which cost a scalar's operator less than its row.

@@ -5,10 +5,9 @@ use lib.IntN.{negsuc}
 use Rattle.rounding.specs.Bits.{of_fields, of_bits}
 use Rattle.value.specs.declared.Scalar.TheVariants.{Bool as bool, I32, U32, F16}
 use Rattle.value.specs.declared.ShaderStage.TheVariants.{Exec}
-use Rattle.value.specs.declared.Answer.TheVariants.{DivByZero, ShrOverflow}
-use Rattle.value.specs.declared.Found.TheVariants.{Nothing}
-use Rattle.value.specs.declared.Pair.TheVariants.{None}
-use Rattle.value.specs.Answer.{carries, answer_of, number_of, detail_of, scalar_in, strict, stage_of}
+use Rattle.std.specs.Prelude.{None, Err}
+use Rattle.value.specs.declared.OperatorError.TheVariants.{DivByZero, ShrOverflow}
+use Rattle.value.specs.Answer.{carries, refused_by, answer_of, number_of, detail_of, scalar_in, strict, stage_of}
 use Rattle.value.specs.Pattern.{proper_of, kept_of}
 use Rattle.value.specs.Scalar.{type_of, finite_of, bits_of, kept_scalar, scalar_of}
 use Rattle.value.specs.Pair.{both_of}
@@ -18,8 +17,8 @@ pub both_shifts_carry : (carries 9 ≡ true) × (carries 10 ≡ true) × (carrie
 both_shifts_carry = (refl, refl, refl)
 
 -- the detail for the number, no detail, the count for the operand; an operand of DivByZero
-pub shift_said : (number_of (answer_of (ShrOverflow 40 (U32 7))) ≡ 10) × (detail_of (answer_of (ShrOverflow 40 (U32 7))) ≡ 40)
-    × (scalar_in (answer_of (ShrOverflow 40 (U32 7))) ≡ U32 7) × (scalar_in (answer_of DivByZero) ≡ bool false)
+pub shift_said : (number_of (refused_by (ShrOverflow 40 (U32 7))) ≡ 10) × (detail_of (refused_by (ShrOverflow 40 (U32 7))) ≡ 40)
+    × (scalar_in (answer_of (Err (ShrOverflow 40 (U32 7)))) ≡ U32 7) × (scalar_in (answer_of (Err DivByZero)) ≡ bool false)
 shift_said = (refl, refl, refl, refl)
 
 -- every stage strict
@@ -58,5 +57,5 @@ pub zero_above : bits_of (I32 (negsuc 0)) ≡ 0xFFFFFFFF
 zero_above = refl
 
 -- a pattern with bits above cut to its type, alone or in a pair
-pub too_wide : (scalar_of 3 0x100000000 ≡ Nothing) × (both_of (scalar_of 3 1) (scalar_of 3 0x100000000) ≡ None)
+pub too_wide : (scalar_of 3 0x100000000 ≡ None) × (both_of (scalar_of 3 1) (scalar_of 3 0x100000000) ≡ None)
 too_wide = (refl, refl)

@@ -3,8 +3,11 @@ use mathlib.Core.Path.{◌≡◌, refl, sym, ap, ◌∙◌}
 use Prim.Native.Nat.{ℕ}
 use lib.Dec.{eqb}
 use Rattle.integer.proofs.Single.{OneResult}
-use Rattle.value.specs.declared.Answer.{Answer}
-use Rattle.value.specs.declared.Answer.TheVariants as A
+use Rattle.std.specs.Prelude as Std
+use Rattle.std.specs.Prelude.{Ok, Err}
+use Rattle.value.specs.declared.Scalar.{Scalar}
+use Rattle.value.specs.declared.OperatorError.{OperatorError}
+use Rattle.value.specs.declared.OperatorError.TheVariants as E
 use Rattle.value.specs.Answer.{Result, value, refused, shift_refused, answer_of}
 use Rattle.value.specs.Pattern.{pick}
 use Rattle.value.proofs.carries.Kinds as carries_kinds
@@ -21,10 +24,10 @@ use Rattle.value.proofs.stage_of.Kinds as stage_of_kinds
 use Rattle.value.proofs.stage_of.Reads as stage_of_reads
 use Rattle.value.proofs.type_of.Kinds as type_of_kinds
 use Rattle.value.proofs.type_of.Reads as type_of_reads
-use Rattle.value.proofs.said.number.Kinds as number_kinds
-use Rattle.value.proofs.said.number.Reads as number_reads
-use Rattle.value.proofs.said.detail.Kinds as detail_kinds
-use Rattle.value.proofs.said.detail.Reads as detail_reads
+use Rattle.value.proofs.OperatorError.number.Kinds as number_kinds
+use Rattle.value.proofs.OperatorError.number.Reads as number_reads
+use Rattle.value.proofs.OperatorError.detail.Kinds as detail_kinds
+use Rattle.value.proofs.OperatorError.detail.Reads as detail_reads
 use Rattle.value.proofs.said.scalar_in.Kinds as scalar_in_kinds
 use Rattle.value.proofs.said.scalar_in.Reads as scalar_in_reads
 use Rattle.value.proofs.pattern.kept_scalar.Kinds as kept_scalar_kinds
@@ -36,32 +39,35 @@ use Rattle.value.proofs.pattern.scalar_of.Reads as scalar_of_reads
 use Rattle.value.proofs.pattern.pair_of.Kinds as pair_of_kinds
 use Rattle.value.proofs.pattern.pair_of.Reads as pair_of_reads
 
--- the answer that has a number
-abbrev named : ℕ → Answer
+abbrev Answer : Type 0
+Answer = Std.Result Scalar OperatorError
+
+-- the error that has a number
+abbrev named : ℕ → OperatorError
 named n =
-    pick (eqb n 1) A.Unary
-    (pick (eqb n 2) A.Binary
-    (pick (eqb n 4) A.AddOverflow
-    (pick (eqb n 5) A.SubOverflow
-    (pick (eqb n 6) A.MulOverflow
-    (pick (eqb n 7) A.DivByZero A.RemZeroDiv)))))
+    pick (eqb n 1) E.Unary
+    (pick (eqb n 2) E.Binary
+    (pick (eqb n 4) E.AddOverflow
+    (pick (eqb n 5) E.SubOverflow
+    (pick (eqb n 6) E.MulOverflow
+    (pick (eqb n 7) E.DivByZero E.RemZeroDiv)))))
 
 abbrev back : Result → Answer
-back (value s) = A.Value s
-back (refused r) = named r.number
-back (shift_refused n d l) = pick (eqb n 9) (A.ShlOverflow d l) (A.ShrOverflow d l)
+back (value s) = Ok s
+back (refused r) = Err (named r.number)
+back (shift_refused n d l) = Err (pick (eqb n 9) (E.ShlOverflow d l) (E.ShrOverflow d l))
 
 answer_back : (a : Answer) → back (answer_of a) ≡ a
-answer_back (A.Value s) = refl
-answer_back A.Unary = refl
-answer_back A.Binary = refl
-answer_back A.AddOverflow = refl
-answer_back A.SubOverflow = refl
-answer_back A.MulOverflow = refl
-answer_back A.DivByZero = refl
-answer_back A.RemZeroDiv = refl
-answer_back (A.ShlOverflow n l) = refl
-answer_back (A.ShrOverflow n l) = refl
+answer_back (Ok s) = refl
+answer_back (Err E.Unary) = refl
+answer_back (Err E.Binary) = refl
+answer_back (Err E.AddOverflow) = refl
+answer_back (Err E.SubOverflow) = refl
+answer_back (Err E.MulOverflow) = refl
+answer_back (Err E.DivByZero) = refl
+answer_back (Err E.RemZeroDiv) = refl
+answer_back (Err (E.ShlOverflow n l)) = refl
+answer_back (Err (E.ShrOverflow n l)) = refl
 
 -- two answers with one value, or one number, detail and operand, are one
 pub one_answer : (x y : Answer) {r : Result} → answer_of x ≡ r → answer_of y ≡ r → x ≡ y

@@ -1,5 +1,5 @@
 -- A scalar that its type holds, and its pattern: proper, and a NaN only as kept. Assumes nothing.
-use Prim.Native.Nat.{ℕ, suc, ◌-◌, ◌<◌}
+use Prim.Native.Nat.{ℕ, suc, ◌<◌}
 use mathlib.Core.Path.{◌≡◌, refl, sym, subst, ◌∙◌}
 use mathlib.Core.Bool.{Bool, true, false, not}
 use native.Mathlib.Omega.{arith}
@@ -11,6 +11,7 @@ use borrow.Author.Tests.{lt-ltb, ltb-true}
 use mir.Syntax.{Width, w16, w32, w64}
 use mir.Val.{Fits, SFits, to_z, of_z}
 use mir.ValLaws.{to_z-Fits}
+use Rattle.std.specs.Prelude.{Option, Some, None}
 use Rattle.integer.proofs.Wrap.{bits_wrap, wrap_u_fits}
 use Rattle.rounding.specs.Kind.{Kind, half, single, double}
 use Rattle.rounding.specs.Bits.{to_bits, of_bits}
@@ -18,8 +19,6 @@ use Rattle.rounding.proofs.Same.{of, to_bits_is, of_bits_is}
 use Rattle.rounding.proofs.Nan.{no_nan_bits}
 use Rattle.value.specs.declared.Scalar.{Scalar}
 use Rattle.value.specs.declared.Scalar.TheVariants.{Bool as bool, AbstractInt, AbstractFloat, I32, U32, F32, F16}
-use Rattle.value.specs.declared.Found.{Found}
-use Rattle.value.specs.declared.Found.TheVariants.{Value, Nothing}
 use Rattle.value.specs.declared.Pair.{Pair}
 use Rattle.value.specs.declared.Pair.TheVariants as P
 use Rattle.value.specs.Pattern.{pick, proper_of, nan_pattern, one_nan, kept_of}
@@ -38,20 +37,20 @@ Sound (F32 x) = T (fits binary32 x)
 Sound (F16 b) = Fits w16 b
 
 -- a scalar of a type, where there is one
-abbrev pub OfType : ℕ → Found → Type 0
-OfType ty (Value s) = (type_of s ≡ ty) × Sound s
-OfType ty Nothing = Unit {0}
+abbrev pub OfType : ℕ → Option Scalar → Type 0
+OfType ty (Some s) = (type_of s ≡ ty) × Sound s
+OfType ty None = Unit {0}
 
 -- the two parts of a pair of a type
-abbrev pub Couple : ℕ → Pair → Type 0
-Couple ty (P.Bool x y) = ty ≡ 0
-Couple ty (P.AbstractInt x y) = (ty ≡ 1) × (SFits w64 x × SFits w64 y)
-Couple ty (P.AbstractFloat x y) = (ty ≡ 2) × (T (fits binary64 x) × T (fits binary64 y))
-Couple ty (P.I32 x y) = (ty ≡ 3) × (SFits w32 x × SFits w32 y)
-Couple ty (P.U32 x y) = (ty ≡ 4) × (Fits w32 x × Fits w32 y)
-Couple ty (P.F32 x y) = (ty ≡ 5) × (T (fits binary32 x) × T (fits binary32 y))
-Couple ty (P.F16 x y) = (ty ≡ 6) × (Fits w16 x × Fits w16 y)
-Couple ty P.None = Unit {0}
+abbrev pub Couple : ℕ → Option Pair → Type 0
+Couple ty (Some (P.Bool x y)) = ty ≡ 0
+Couple ty (Some (P.AbstractInt x y)) = (ty ≡ 1) × (SFits w64 x × SFits w64 y)
+Couple ty (Some (P.AbstractFloat x y)) = (ty ≡ 2) × (T (fits binary64 x) × T (fits binary64 y))
+Couple ty (Some (P.I32 x y)) = (ty ≡ 3) × (SFits w32 x × SFits w32 y)
+Couple ty (Some (P.U32 x y)) = (ty ≡ 4) × (Fits w32 x × Fits w32 y)
+Couple ty (Some (P.F32 x y)) = (ty ≡ 5) × (T (fits binary32 x) × T (fits binary32 y))
+Couple ty (Some (P.F16 x y)) = (ty ≡ 6) × (Fits w16 x × Fits w16 y)
+Couple ty None = Unit {0}
 
 -- ---- one NaN
 alike : (t : Bool) {a b : ℕ} → a ≡ b → pick t a b ≡ b
@@ -165,11 +164,11 @@ kept_bits (F32 x) = refl
 kept_bits (F16 b) = kept_once 6 b
 
 -- ---- the scalar of a pattern is sound
-pub found : (t : Bool) (s : Scalar) (ty : ℕ) → (t ≡ true → (type_of s ≡ ty) × Sound s) → OfType ty (pick t (Value s) Nothing)
+pub found : (t : Bool) (s : Scalar) (ty : ℕ) → (t ≡ true → (type_of s ≡ ty) × Sound s) → OfType ty (pick t (Some s) None)
 found true s ty h = h refl
 found false s ty h = tt
 
-unfound : (t : Bool) (ty : ℕ) → OfType ty (pick t Nothing Nothing)
+unfound : (t : Bool) (ty : ℕ) → OfType ty (pick t None None)
 unfound true ty = tt
 unfound false ty = tt
 
@@ -187,7 +186,7 @@ of_type ty b =
     (found (proper_of 6 b) (F16 (kept_of 6 b)) 6 (λ e. (refl, kept_half b (record { fits = ltb-true b 65536 e }))))
     (λ n. unfound (proper_of (suc (suc (suc (suc (suc (suc (suc n))))))) b) (suc (suc (suc (suc (suc (suc (suc n)))))))) ty
 
-cases_couple : (Q : Pair → Type 0) (s : Scalar) {b : Bool → Pair} {ai : ℤ → Pair} {af : Float → Pair} {i : ℤ → Pair} {u : ℕ → Pair} {f : Float → Pair} {h : ℕ → Pair}
+cases_couple : (Q : Option Pair → Type 0) (s : Scalar) {b : Bool → Option Pair} {ai : ℤ → Option Pair} {af : Float → Option Pair} {i : ℤ → Option Pair} {u : ℕ → Option Pair} {f : Float → Option Pair} {h : ℕ → Option Pair}
     → ((y : Bool) → Q (b y)) → ((y : ℤ) → SFits w64 y → Q (ai y)) → ((y : Float) → T (fits binary64 y) → Q (af y)) → ((y : ℤ) → SFits w32 y → Q (i y))
     → ((y : ℕ) → Fits w32 y → Q (u y)) → ((y : Float) → T (fits binary32 y) → Q (f y)) → ((y : ℕ) → Fits w16 y → Q (h y))
     → Sound s → Q (cases s b ai af i u f h)
@@ -208,7 +207,7 @@ pair_couple ty (U32 x) s p q = cases_couple (Couple ty) s (λ y. tt) (λ y g. tt
 pair_couple ty (F32 x) s p q = cases_couple (Couple ty) s (λ y. tt) (λ y g. tt) (λ y g. tt) (λ y g. tt) (λ y g. tt) (λ y g. (sym p.0, (p.1, g))) (λ y g. tt) q
 pair_couple ty (F16 x) s p q = cases_couple (Couple ty) s (λ y. tt) (λ y g. tt) (λ y g. tt) (λ y g. tt) (λ y g. tt) (λ y g. tt) (λ y g. (sym p.0, (p.1, g))) q
 
-pub couple : (ty : ℕ) (x y : Found) → OfType ty x → OfType ty y → Couple ty (both_of x y)
-couple ty (Value x) (Value y) p q = pair_couple ty x y p q.1
-couple ty (Value x) Nothing p q = tt
-couple ty Nothing y p q = tt
+pub couple : (ty : ℕ) (x y : Option Scalar) → OfType ty x → OfType ty y → Couple ty (both_of x y)
+couple ty (Some x) (Some y) p q = pair_couple ty x y p q.1
+couple ty (Some x) None p q = tt
+couple ty None y p q = tt

@@ -5,36 +5,40 @@ use mathlib.Core.Bool.{false}
 use mathlib.Core.List.{List, [], ◌∷◌}
 use types.Run.{OneOf, miss}
 use denote.Enum.Declared.{tag_of}
+use Rattle.std.specs.Prelude.{Ok, Err}
+use Rattle.value.specs.declared.Scalar.{Scalar}
 use Rattle.value.specs.declared.Scalar.TheVariants.{Bool as bool}
-use Rattle.value.specs.declared.Answer.{Answer}
-use Rattle.value.specs.declared.Answer.TheVariants as A
+use Rattle.value.specs.declared.OperatorError.{OperatorError}
+use Rattle.value.specs.declared.OperatorError.TheVariants as E
 use Rattle.value.specs.Answer.{answer_of, detail_of, scalar_in}
-use Rattle.value.specs.contracts.Answer.{the_type}
+use Rattle.value.specs.contracts.OperatorError.{the_type}
 
--- any other answer than a value and a shift's refusal has no scalar, and than a shift's refusal no detail
+-- any other refusal than a shift's
 abbrev plain_tags : List ℕ
-plain_tags = 1 ∷ 2 ∷ 3 ∷ 4 ∷ 5 ∷ 6 ∷ 7 ∷ []
+plain_tags = 0 ∷ 1 ∷ 2 ∷ 3 ∷ 4 ∷ 5 ∷ 6 ∷ []
 
-pub no_scalar : (a : Answer) → OneOf plain_tags (tag_of the_type a) → bool false ≡ scalar_in (answer_of a)
-no_scalar (A.Value s) o = absurd (miss plain_tags 0 tt o)
-no_scalar A.Unary o = refl
-no_scalar A.Binary o = refl
-no_scalar A.AddOverflow o = refl
-no_scalar A.SubOverflow o = refl
-no_scalar A.MulOverflow o = refl
-no_scalar A.DivByZero o = refl
-no_scalar A.RemZeroDiv o = refl
-no_scalar (A.ShlOverflow n l) o = absurd (miss plain_tags 8 tt o)
-no_scalar (A.ShrOverflow n l) o = absurd (miss plain_tags 9 tt o)
+pub no_scalar : (e : OperatorError) → OneOf plain_tags (tag_of the_type e) → bool false ≡ scalar_in (answer_of (Err e))
+no_scalar E.Unary o = refl
+no_scalar E.Binary o = refl
+no_scalar E.AddOverflow o = refl
+no_scalar E.SubOverflow o = refl
+no_scalar E.MulOverflow o = refl
+no_scalar E.DivByZero o = refl
+no_scalar E.RemZeroDiv o = refl
+no_scalar (E.ShlOverflow n l) o = absurd (miss plain_tags 7 tt o)
+no_scalar (E.ShrOverflow n l) o = absurd (miss plain_tags 8 tt o)
 
-pub no_detail : (a : Answer) → OneOf (0 ∷ plain_tags) (tag_of the_type a) → 0 ≡ detail_of (answer_of a)
-no_detail (A.Value s) o = refl
-no_detail A.Unary o = refl
-no_detail A.Binary o = refl
-no_detail A.AddOverflow o = refl
-no_detail A.SubOverflow o = refl
-no_detail A.MulOverflow o = refl
-no_detail A.DivByZero o = refl
-no_detail A.RemZeroDiv o = refl
-no_detail (A.ShlOverflow n l) o = absurd (miss (0 ∷ plain_tags) 8 tt o)
-no_detail (A.ShrOverflow n l) o = absurd (miss (0 ∷ plain_tags) 9 tt o)
+pub no_detail : (e : OperatorError) → OneOf plain_tags (tag_of the_type e) → 0 ≡ detail_of (answer_of (Err e))
+no_detail E.Unary o = refl
+no_detail E.Binary o = refl
+no_detail E.AddOverflow o = refl
+no_detail E.SubOverflow o = refl
+no_detail E.MulOverflow o = refl
+no_detail E.DivByZero o = refl
+no_detail E.RemZeroDiv o = refl
+no_detail (E.ShlOverflow n l) o = absurd (miss plain_tags 7 tt o)
+no_detail (E.ShrOverflow n l) o = absurd (miss plain_tags 8 tt o)
+
+-- a value has no detail
+pub value_detail : (s : Scalar) → 0 ≡ detail_of (answer_of (Ok s))
+value_detail s = refl

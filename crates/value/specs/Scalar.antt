@@ -1,13 +1,11 @@
 -- 01, Operands: the pattern of a scalar, and the scalar of a type and a pattern. Assumes nothing.
-use Rattle.std.specs.Prelude.{ℕ, Bool, true, List, [], ◌∷◌, eqb, get_or}
+use Rattle.std.specs.Prelude.{ℕ, Bool, true, List, [], ◌∷◌, Option, Some, None, eqb, get_or}
 use Rattle.std.specs.Int.{w32, w64}
 use Rattle.std.proofs.Common.{to_z, of_z}
 use Rattle.rounding.specs.Kind.{half, single, double}
 use Rattle.rounding.specs.Bits.{to_bits, of_bits, finite}
 use Rattle.value.specs.declared.Scalar.{Scalar}
 use Rattle.value.specs.declared.Scalar.TheVariants.{Bool as bool, AbstractInt, AbstractFloat, I32, U32, F32, F16}
-use Rattle.value.specs.declared.Found.{Found}
-use Rattle.value.specs.declared.Found.TheVariants.{Value, Nothing}
 use Rattle.value.specs.Pattern.{pick, proper_of, kept_of}
 
 -- Types: 0 Bool, 1 AbstractInt, 2 AbstractFloat, 3 I32, 4 U32, 5 F32, 6 F16
@@ -51,14 +49,14 @@ kept_scalar (F32 x) = F32 x
 kept_scalar (F16 x) = F16 (kept_of 6 x)
 
 -- the scalar of a pattern, one for each type
-abbrev pub scalars : ℕ → List Found
+abbrev pub scalars : ℕ → List (Option Scalar)
 scalars b =
-    Value (bool (eqb b 1)) ∷ Value (AbstractInt (to_z w64 b)) ∷ Value (AbstractFloat (of_bits double b)) ∷ Value (I32 (to_z w32 b)) ∷ Value (U32 b)
-    ∷ Value (F32 (of_bits single b)) ∷ Value (F16 (kept_of 6 b)) ∷ []
+    Some (bool (eqb b 1)) ∷ Some (AbstractInt (to_z w64 b)) ∷ Some (AbstractFloat (of_bits double b)) ∷ Some (I32 (to_z w32 b)) ∷ Some (U32 b)
+    ∷ Some (F32 (of_bits single b)) ∷ Some (F16 (kept_of 6 b)) ∷ []
 
-abbrev pub scalar_at : ℕ → ℕ → Found
-scalar_at ty b = get_or (scalars b) ty Nothing
+abbrev pub scalar_at : ℕ → ℕ → Option Scalar
+scalar_at ty b = get_or (scalars b) ty None
 
 -- the scalar of a type and a pattern; a pattern too wide for its type is malformed
-abbrev pub scalar_of : ℕ → ℕ → Found
-scalar_of ty b = pick (proper_of ty b) (scalar_at ty b) Nothing
+abbrev pub scalar_of : ℕ → ℕ → Option Scalar
+scalar_of ty b = pick (proper_of ty b) (scalar_at ty b) None

@@ -11,7 +11,7 @@ ghost use Rattle.value.specs.Scalar.{finite_of, type_of};
 ghost use Rattle.value.specs.Pattern.{kept_of, proper_of};
 
 // A value with its type; an F16 is its bits.
-#[derive(Clone, Copy)]
+#[derive(Clone, Copy, Debug, PartialEq)]
 pub enum Scalar {
     Bool(bool),
     AbstractInt(i64),
@@ -23,17 +23,16 @@ pub enum Scalar {
 }
 
 // When an expression is worked out.
-#[derive(Clone, Copy)]
+#[derive(Clone, Copy, Debug, PartialEq, Eq)]
 pub enum ShaderStage {
     Const,
     Override,
     Exec,
 }
 
-// What an operator answers: a value, or why it has none; a shift says the count and the left operand.
-#[derive(Clone, Copy)]
-pub enum Answer {
-    Value(Scalar),
+// Why an operator has no value; a shift says the count and the left operand.
+#[derive(Clone, Copy, Debug, PartialEq)]
+pub enum OperatorError {
     Unary,
     Binary,
     AddOverflow,
@@ -45,15 +44,11 @@ pub enum Answer {
     ShrOverflow(u32, Scalar),
 }
 
-// A scalar, where there is one.
-#[derive(Clone, Copy)]
-pub enum Found {
-    Value(Scalar),
-    Nothing,
-}
+// What an operator answers.
+pub type Answer = Result<Scalar, OperatorError>;
 
-// Two operands of one type, or that they have no common type.
-#[derive(Clone, Copy)]
+// Two operands of one type.
+#[derive(Clone, Copy, Debug, PartialEq)]
 pub enum Pair {
     Bool(bool, bool),
     AbstractInt(i64, i64),
@@ -62,11 +57,10 @@ pub enum Pair {
     U32(u32, u32),
     F32(f32, f32),
     F16(u16, u16),
-    None,
 }
 
 // A refusal: its number and its detail, and the type and bits of the operand that a shift's carries. Any other's are 0.
-#[derive(Clone, Copy)]
+#[derive(Clone, Copy, Debug, PartialEq, Eq)]
 pub struct Refusal {
     pub bits: u64,
     pub detail: u32,
@@ -97,8 +91,8 @@ pub fn is_finite(s: Scalar) -> bool
     ensures { result ≡ finite_of s }
 {
     match s {
-        Scalar::AbstractFloat(x) => rounding::finite_f64(x),
-        Scalar::F32(x) => rounding::finite_f32(x),
+        Scalar::AbstractFloat(x) => x.is_finite(),
+        Scalar::F32(x) => x.is_finite(),
         Scalar::F16(b) => rounding::finite_half(b),
         _ => true,
     }
@@ -131,7 +125,7 @@ pub fn kept(ty: u8, bits: u64) -> u64
     }
 }
 
-// The stage of a code.
+// The stage of a code. Every code has one, so this is no `TryFrom`.
 pub fn stage_of(code: u8) -> ShaderStage
     ensures { result ≡ stage_of code }
 {

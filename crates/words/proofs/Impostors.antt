@@ -4,21 +4,21 @@ use mathlib.Core.Path.{◌≡◌, refl}
 use mathlib.Core.List.{List, [], ◌∷◌}
 use Prim.Native.Nat.{ℕ, ◌+◌}
 use lib.ListN.{length, drop, replicate}
-use Rattle.words.specs.declared.number.Spelled.TheVariants.{Number, Nothing}
+use Rattle.std.proofs.Common.{Some, None}
 use Rattle.words.specs.Spelling.{low_digit, letter_digit, digit_of, onwards, digits_only, spelled}
 use Rattle.words.specs.Split.{before, behind, word_at, next_place, word_place, word_count}
 
 -- decimal: "12" is not 11, as where each digit counts as 1
-pub digits_count : spelled 10 (49 ∷ 50 ∷ []) ≡ Number 12
+pub digits_count : spelled 10 (49 ∷ 50 ∷ []) ≡ Some 12
 unfolding spelled digits_only onwards digit_of low_digit letter_digit
 digits_count = refl
 
 -- hex: sixteen letters F and f just fit, and one more is too long
-pub bits_fit : spelled 16 (70 ∷ 102 ∷ replicate 14 70) ≡ Number 18446744073709551615
+pub bits_fit : spelled 16 (70 ∷ 102 ∷ replicate 14 70) ≡ Some 18446744073709551615
 unfolding spelled digits_only onwards digit_of low_digit letter_digit
 bits_fit = refl
 
-pub bits_over : spelled 16 (replicate 17 70) ≡ Nothing
+pub bits_over : spelled 16 (replicate 17 70) ≡ None
 unfolding spelled digits_only onwards digit_of low_digit letter_digit
 bits_over = refl
 

@@ -1,7 +1,5 @@
 -- The number that a word spells.
-use Rattle.std.specs.Prelude.{ℕ, ◌+◌, ◌-◌, ◌*◌, ◌^◌, Bool, true, cond, ◌&&◌, List, [], ◌∷◌, ltb, length}
-use Rattle.words.specs.declared.number.Spelled.{Spelled}
-use Rattle.words.specs.declared.number.Spelled.TheVariants.{Number, Nothing}
+use Rattle.std.specs.Prelude.{ℕ, ◌+◌, ◌-◌, ◌*◌, ◌^◌, Bool, true, cond, ◌&&◌, List, [], ◌∷◌, Option, Some, None, ltb, length}
 
 -- `0` to `9`, and 16 below them
 unfoldable pub low_digit : ℕ → ℕ
@@ -26,5 +24,5 @@ digits_only b [] = true
 digits_only b (c ∷ cs) = ltb (digit_of c) b && digits_only b cs
 
 -- a word that is empty, has another byte or spells a number of more than 64 bits spells nothing
-unfoldable pub spelled : ℕ → List ℕ → Spelled
-spelled b s = cond (ltb 0 (length s)) (cond (digits_only b s && ltb (onwards b 0 s) (2 ^ 64)) (Number (onwards b 0 s)) Nothing) Nothing
+unfoldable pub spelled : ℕ → List ℕ → Option ℕ
+spelled b s = cond (ltb 0 (length s)) (cond (digits_only b s && ltb (onwards b 0 s) (2 ^ 64)) (Some (onwards b 0 s)) None) None

@@ -4,5 +4,5 @@
 mod number;
 mod split;
 
-pub use number::{Spelled, decimal, hex};
+pub use number::{decimal, hex};
 pub use split::{count, end_of, word};

@@ -1,19 +1,13 @@
 // The words of a line, each ended by a byte 0.
-ghost use Rattle.std.specs.Prelude.{◌≡◌, ◌+◌, ◌≤◌, cond, eqb, length, drop};
+ghost use Rattle.std.specs.Prelude.{◌≡◌, ◌+◌, ◌≤◌, length, drop};
 ghost use Rattle.words.specs.Split.{before, next_place, WordOf, word_count};
 
 // Where the part ends that starts at a place: at the first byte from there on that is `end`, or behind the last.
 pub fn end_of(s: &[u8], from: usize, end: u8) -> usize
     ensures { result ≡ from + length (before end (drop from s.now)) }
 {
-    let mut i = from;
-    while i < s.len() {
-        if s[i] == end {
-            return i;
-        }
-        i += 1;
-    }
-    i
+    let rest = s.get(from..).unwrap_or(&[]);
+    from + rest.iter().position(|b| *b == end).unwrap_or(rest.len())
 }
 
 // Where the next word starts.
@@ -30,31 +24,16 @@ pub fn word(s: &[u8], k: usize) -> &[u8]
     ensures { WordOf s.entry k result }
 {
     let mut at = 0;
-    let mut left = k;
-    while 0 < left {
+    for _ in 0..k {
         at = next(s, at);
-        left -= 1;
     }
     let e = end_of(s, at, 0);
     &s[at..e]
-}
-
-// 1 for a byte that ends a word.
-fn ends(c: u8) -> usize
-    ensures { (result ≡ cond (eqb c 0) 1 0) × (result ≤ 1) }
-{
-    if c == 0 { 1 } else { 0 }
 }
 
 // How many words there are.
 pub fn count(s: &[u8]) -> usize
     ensures { result ≡ word_count s.now }
 {
-    let mut n = 0;
-    let mut i = 0;
-    while i < s.len() {
-        n += ends(s[i]);
-        i += 1;
-    }
-    n
+    s.iter().filter(|b| **b == 0).count()
 }

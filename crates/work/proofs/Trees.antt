@@ -7,11 +7,8 @@ use Prim.Native.Nat.{ℕ, ◌+◌, ◌-◌, ◌<◌, ◌≤◌}
 use native.Mathlib.Omega.{arith}
 use lib.Dec.{eqb}
 use lib.ListN.{length, get_or}
-use borrow.Author.Tests.{eq-eqb, ne_eqb}
-use Rattle.value.specs.Pattern.{pick}
 use Rattle.operand.specs.declared.Outcome.{Outcome}
 use Rattle.operand.specs.Outcome.{value_of}
-use Rattle.dispatch.specs.Meaning.{unary_meaning, binary_meaning}
 use Rattle.slot.specs.Slot.{slot, reference_to}
 use Rattle.sheet.specs.declared.Literal.{Literal}
 use Rattle.low.specs.Read.{found}
@@ -19,56 +16,20 @@ use Rattle.sheet.specs.Tree.{Expr, literal, reference, unary, binary, Entry, set
 use Rattle.sheet.specs.Node.{read_node, read_literal, literal_in}
 use Rattle.sheet.proofs.Inverse.{literal_read, tag_there, tag_four, node_ends, literal_there, reference_there, one_there, two_there}
 use Rattle.work.specs.declared.Walked.{Walked}
-use Rattle.work.specs.declared.Operand.{Operand}
-use Rattle.work.specs.declared.Operand.TheVariants.{Value, Ends}
 use Rattle.work.specs.Meaning.{on_one, on_two, meaning, entry_meaning}
 use Rattle.sheet.specs.Accepted.{Parsed, NodeAt, LiteralAt}
 use Rattle.work.specs.Inside.{NodeMeans, tag_byte}
 use Rattle.types.specs.Edition.{Edition}
 
--- ---- a refusal ends a node
-value_status : (status : ℕ) → pick (eqb status 0) Value Ends ≡ Value → eqb status 0 ≡ true
-value_status status e = go (eqb status 0) e
-  where
-    go : (b : Bool) → pick b Value Ends ≡ Value → b ≡ true
-    go true q = refl
-    go false q = absurd (let z : ◌≡◌ {A = ℕ} 0 1 = cc in omega arith)
-
-ends_status : (status : ℕ) → pick (eqb status 0) Value Ends ≡ Ends → eqb status 0 ≡ false
-ends_status status e = go (eqb status 0) e
-  where
-    go : (b : Bool) → pick b Value Ends ≡ Ends → b ≡ false
-    go true q = absurd (let z : ◌≡◌ {A = ℕ} 0 1 = cc in omega arith)
-    go false q = refl
-
-pub status_value : (status : ℕ) → status ≡ 0 → Value ≡ pick (eqb status 0) Value Ends
-status_value status e = rw (eq-eqb status 0 e)
-
-pub status_ends : (status : ℕ) → (status ≡ 0 → ⊥) → Ends ≡ pick (eqb status 0) Value Ends
-status_ends status ne = rw (ne_eqb status 0 ne)
-
-module _ (op stage : ℕ) (x : Outcome) (a : Operand) (e : a ≡ pick (eqb x.status 0) Value Ends) where
-  pub one_ends : a ≡ Ends → x ≡ on_one op stage x
-  unfolding on_one
-  one_ends q = rw (ends_status x.status (sym e ∙ q))
-
-  pub one_value : a ≡ Value → (o : Outcome) → o ≡ unary_meaning op stage x.value → o ≡ on_one op stage x
-  unfolding on_one
-  one_value q o h = rw (value_status x.status (sym e ∙ q)) h
-
-module _ (op stage : ℕ) (l r : Outcome) (a : Operand) (e : a ≡ pick (eqb l.status 0) Value Ends) where
-  pub left_ends : a ≡ Ends → l ≡ on_two op stage l r
+-- ---- a refusal ends a node, the left one first
+module _ (op stage : ℕ) (l r : Outcome) where
+  pub left_ends : eqb l.status 0 ≡ false → l ≡ on_two op stage l r
   unfolding on_two
-  left_ends q = rw (ends_status l.status (sym e ∙ q))
+  left_ends q = rw q
 
-  module _ (q : a ≡ Value) (c : Operand) (f : c ≡ pick (eqb r.status 0) Value Ends) where
-    pub right_ends : c ≡ Ends → r ≡ on_two op stage l r
-    unfolding on_two
-    right_ends h = rw (value_status l.status (sym e ∙ q), ends_status r.status (sym f ∙ h))
-
-    pub two_values : c ≡ Value → (o : Outcome) → o ≡ binary_meaning op stage l.value r.value → o ≡ on_two op stage l r
-    unfolding on_two
-    two_values h o k = rw (value_status l.status (sym e ∙ q), value_status r.status (sym f ∙ h)) k
+  pub right_ends : eqb l.status 0 ≡ true → eqb r.status 0 ≡ false → r ≡ on_two op stage l r
+  unfolding on_two
+  right_ends q h = rw (q, h)
 
 module _ (ed : Edition) where
   -- ---- what stands below a node

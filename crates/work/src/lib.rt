@@ -1,14 +1,12 @@
 // What an accepted body means over the slots, as a whole and node by node: a node's walk and the walk of its operands call one another.
 #![tactic(auto)]
 
-ghost use Rattle.std.specs.Prelude.{◌≡◌, false, ◌+◌, ◌<◌, eqb, length, get_or};
+ghost use Rattle.std.specs.Prelude.{◌≡◌, false, ◌+◌, ◌<◌, length, get_or};
 ghost use Rattle.types.specs.Edition.{plain};
-ghost use Rattle.value.specs.Pattern.{pick};
 ghost use Rattle.operand.specs.Outcome.{value_of};
 ghost use Rattle.slot.specs.Slot.{reference_to};
 ghost use Rattle.sheet.specs.Node.{read_literal, literal_in};
 ghost use Rattle.sheet.specs.Accepted.{NodeAt, LiteralAt, Bodied};
-ghost use Rattle.work.specs.declared.Operand.TheVariants.{Value, Ends};
 ghost use Rattle.work.specs.Meaning.{on_one, on_two};
 ghost use Rattle.work.specs.Inside.{NodeMeans, BodyMeans, tag_byte};
 
@@ -22,47 +20,27 @@ pub struct Walked {
     pub next: usize,
 }
 
-// An operand has a value, or its refusal ends the node.
-#[derive(Clone, Copy)]
-pub enum Operand {
-    Value,
-    Ends,
-}
-
-// Whether an answer of this status has a value.
-fn has_value(status: u8) -> Operand
-    ensures { result ≡ pick (eqb status 0) Value Ends }
-{
-    if status == 0 {
-        return Operand::Value;
-    }
-    Operand::Ends
-}
-
-// A unary operator on an answer: a refusal stands.
+// A unary operator on an answer: a refusal stands. Here and below 01 names the form: a let that returns early on refusal.
 fn on_one(op: u8, stage: u8, x: Outcome) -> Outcome
     ensures { result ≡ on_one op stage x }
 {
-    let Operand::Value = has_value(x.status) else {
+    let 0 = x.status else {
         return x;
     };
-    let v = x.value;
-    shape::unary(op, stage, v)
+    shape::unary(op, stage, x.value)
 }
 
 // A binary operator on two answers: a refusal stands, the left one first.
 fn on_two(op: u8, stage: u8, l: Outcome, r: Outcome) -> Outcome
     ensures { result ≡ on_two op stage l r }
 {
-    let Operand::Value = has_value(l.status) else {
+    let 0 = l.status else {
         return l;
     };
-    let Operand::Value = has_value(r.status) else {
+    let 0 = r.status else {
         return r;
     };
-    let v = l.value;
-    let w = r.value;
-    shape::binary(op, stage, v, w)
+    shape::binary(op, stage, l.value, r.value)
 }
 
 // A literal node: its value.
@@ -71,10 +49,8 @@ fn walk_literal(b: &[u8], at: usize) -> Walked
     ensures { (result.answer ≡ value_of (literal_in (read_literal plain false b.now at)).value) × (result.next ≡ (literal_in (read_literal plain false b.now at)).next) }
 {
     let x = sheet::literal_at(b, at);
-    let v = x.value;
-    let answer = operand::answered(v);
     Walked {
-        answer,
+        answer: operand::answered(x.value),
         next: x.next,
     }
 }
@@ -84,9 +60,8 @@ fn walk_reference(b: &[u8], results: &[u8], at: usize) -> Walked
     requires { at + 1 < length b.now }
     ensures { (result.answer ≡ reference_to plain results.now (get_or b.now (at + 1) 0)) × (result.next ≡ at + 2) }
 {
-    let answer = slot::reference(results, b[at + 1]);
     Walked {
-        answer,
+        answer: slot::reference(results, b[at + 1]),
         next: at + 2,
     }
 }
@@ -97,8 +72,7 @@ pub fn walk_node(b: &[u8], results: &[u8], stage: u8, at: usize) -> Walked
     requires { NodeAt plain b.now at }
     ensures { NodeMeans plain stage b.now results.now at result }
 {
-    let tag = b[at];
-    match tag {
+    match b[at] {
         1 => walk_literal(b, at),
         2 => walk_reference(b, results, at),
         3 => walk_operands(b, results, stage, at, false),
@@ -114,19 +88,17 @@ fn walk_operands(b: &[u8], results: &[u8], stage: u8, at: usize, two: bool) -> W
 {
     let op = b[at + 1];
     let first = walk_node(b, results, stage, at + 2);
-    let l = first.answer;
-    let m = first.next;
     if two {
-        let second = walk_node(b, results, stage, m);
-        let r = second.answer;
-        let answer = on_two(op, stage, l, r);
+        let second = walk_node(b, results, stage, first.next);
         return Walked {
-            answer,
+            answer: on_two(op, stage, first.answer, second.answer),
             next: second.next,
         };
     }
-    let answer = on_one(op, stage, l);
-    Walked { answer, next: m }
+    Walked {
+        answer: on_one(op, stage, first.answer),
+        next: first.next,
+    }
 }
 
 // What the entry of an accepted body with this stage byte means over the slots: a setting's is its value.
@@ -135,13 +107,7 @@ pub fn entry(b: &[u8], results: &[u8], stage: u8) -> Outcome
     ensures { BodyMeans plain stage b.now results.now result }
 {
     match sheet::kind_of(stage) {
-        Kind::Setting => {
-            let x = walk_literal(b, 0);
-            x.answer
-        }
-        Kind::Expression => {
-            let w = walk_node(b, results, stage, 0);
-            w.answer
-        }
+        Kind::Setting => walk_literal(b, 0).answer,
+        Kind::Expression => walk_node(b, results, stage, 0).answer,
     }
 }

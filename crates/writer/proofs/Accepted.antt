@@ -17,8 +17,11 @@ use Rattle.low.proofs.Tests.{both}
 use Rattle.low.specs.Bytes.{lows, part}
 use Rattle.low.proofs.Parts.{length_part, at_part}
 use Rattle.low.proofs.Lows.{lows_long}
+use Rattle.std.specs.Prelude.{Result}
+use Rattle.low.specs.declared.Refused.{Refused}
+use Rattle.low.specs.Read.{refusal}
+use Rattle.sheet.specs.Record.{headed}
 use Rattle.sheet.specs.declared.Head.{Head}
-use Rattle.sheet.specs.declared.Head.TheVariants as head
 use Rattle.low.specs.Read.{Read, found, refused, must, then_read}
 use Rattle.sheet.specs.Tree.{Entry, setting, expression, entry_stage}
 use Rattle.sheet.specs.Node.{literal_ok}
@@ -103,7 +106,7 @@ module _ (stages : List ℕ) (stage : ℕ) (b : List ℕ) (e : Entry) (n : ℕ) 
           }
 
 -- ---- a record
-must_head : (x : Bool) (k p : ℕ) (h : Head) (g start len : ℕ) → must x (head.Refused k p) h ≡ head.Record g start len → (x ≡ true) × (h ≡ head.Record g start len)
+must_head : (x : Bool) (k p : ℕ) (h : Result Head Refused) (g start len : ℕ) → must x (refusal k p) h ≡ headed g start len → (x ≡ true) × (h ≡ headed g start len)
 unfolding must
 must_head true k p h g start len e = (refl, e)
 must_head false k p h g start len e = absurd (let z : ◌≡◌ {A = ℕ} 0 1 = cc in omega arith)
@@ -117,16 +120,17 @@ record HeadFrom (s : List ℕ) (at g len : ℕ) : Type 0 where
   small : g ≤ 3
   long : body_len s at ≡ len
 
-head_from : (s : List ℕ) (at g start len : ℕ) → read_head s at ≡ head.Record g start len → HeadFrom s at g len
+head_from : (s : List ℕ) (at g start len : ℕ) → read_head s at ≡ headed g start len → HeadFrom s at g len
 unfolding read_head
 head_from s at g start len e =
     let a = must_head _ _ _ _ g start len e in
     let c = must_head _ _ _ _ g start len a.1 in
     let d = must_head _ _ _ _ g start len c.1 in
     let f = must_head _ _ _ _ g start len d.1 in
-    let h : head.Record (get_or s (at + 2) 0) (at + 5) (body_len s at) ≡ head.Record g start len = f.1 in
-    let i : get_or s (at + 2) 0 ≡ g = cc in
-    let j : body_len s at ≡ len = cc in
+    let h : headed (get_or s (at + 2) 0) (at + 5) (body_len s at) ≡ headed g start len = f.1 in
+    let o : ◌≡◌ {A = Head} record { stage = get_or s (at + 2) 0; start = at + 5; len = body_len s at } record { stage = g; start = start; len = len } = cc in
+    let i : get_or s (at + 2) 0 ≡ g = ap (λ (x : Head). x.stage) o in
+    let j : body_len s at ≡ len = ap (λ (x : Head). x.len) o in
     record {
       there = leb-true _ _ a.0;
       mark = eqb-true _ _ (both (eqb (get_or s at 0) 213) (eqb (get_or s (at + 1) 0) 23) c.0).0;

@@ -11,8 +11,10 @@ use borrow.Author.Tests.{leb-true, leb-false, le-leb, lt-leb, ltb-true, lt-ltb}
 use Rattle.types.specs.Edition.{plain}
 use Rattle.value.specs.Pattern.{pick}
 use Rattle.value.specs.Refusals as No
+use Rattle.std.specs.Prelude.{Result}
+use Rattle.low.specs.declared.Refused.{Refused}
+use Rattle.low.specs.Read.{refusal}
 use Rattle.sheet.specs.declared.Head.{Head}
-use Rattle.sheet.specs.declared.Head.TheVariants as head
 use Rattle.low.specs.Bytes.{part}
 use Rattle.low.proofs.Parts.{length_part, at_part}
 use Rattle.low.specs.Read.{Read, found, refused, must, then_read, read_as, placed_from, there}
@@ -70,7 +72,7 @@ module _ (stages s : List ℕ) (at : ℕ) where
       (must (stage_known (get_or s (at + 2) 0)) (refused No.BadStage (at + 2))
       (body_read (get_or s (at + 2) 0) (body_len s at))))
 
-  on_must : (g : Bool) (k p : ℕ) (h : Head) → on_head plain (must g (head.Refused k p) h) stages s ≡ must g (refused k p) (on_head plain h stages s)
+  on_must : (g : Bool) (k p : ℕ) (h : Result Head Refused) → on_head plain (must g (refusal k p) h) stages s ≡ must g (refused k p) (on_head plain h stages s)
   unfolding must
   on_must true k p h = refl
   on_must false k p h = refl

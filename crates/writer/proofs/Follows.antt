@@ -14,8 +14,10 @@ use Rattle.low.proofs.Tests.{both_true}
 use Rattle.low.specs.Bytes.{lows}
 use Rattle.low.proofs.Lows.{whole_part2}
 use Rattle.integer.proofs.Order.{le_or_lt}
+use Rattle.std.specs.Prelude.{Result}
+use Rattle.low.specs.declared.Refused.{Refused}
+use Rattle.low.specs.Read.{refusal}
 use Rattle.sheet.specs.declared.Head.{Head}
-use Rattle.sheet.specs.declared.Head.TheVariants as head
 use Rattle.low.specs.Read.{refused, read_as}
 use Rattle.sheet.specs.Tree.{Entry, entry_stage}
 use Rattle.sheet.specs.Record.{body_len, read_head, on_head, read_record}
@@ -58,12 +60,12 @@ module _ (es : List Entry) (r : List ℕ) (f : Follows es r) where
   full e = refuses No.TooManyEntries place (records_full plain (128 - length es) whole (settled es) place (omega (arith, long, f.some)) (omega arith))
 
   -- a refusal of the head is the sheet's
-  stopped : (k p : ℕ) → length es < 128 → head.Refused k p ≡ read_head whole place → read_sheet whole ≡ refused k p
+  stopped : (k p : ℕ) → length es < 128 → refusal k p ≡ read_head whole place → read_sheet whole ≡ refused k p
   unfolding read_record
   stopped k p l e =
       refuses k p
       (records_bad plain (128 - length es) whole (settled es) place (map entry_stage (settled es)) (omega (arith, long, f.some)) (omega arith) refl k p
-      (ap (λ (h : Head). on_head plain h (map entry_stage (settled es)) whole) (sym e)))
+      (ap (λ (h : Result Head Refused). on_head plain h (map entry_stage (settled es)) whole) (sym e)))
 
   byte : (i : ℕ) → get_or whole (place + i) 0 ≡ get_or r i 0
   byte i = get_or-append-add (write_sheet es) r i 0

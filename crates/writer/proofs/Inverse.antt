@@ -4,7 +4,7 @@ use mathlib.Core.List.{List, ◌∷◌}
 use Prim.Native.Nat.{ℕ}
 use native.Mathlib.Omega.{arith}
 use lib.ListN.{length, length-append}
-use Rattle.low.specs.declared.Counted.TheVariants as counted
+use Rattle.std.specs.Prelude.{Ok}
 use Rattle.low.specs.Read.{Read, found, refused}
 use Rattle.sheet.specs.Tree.{Entry}
 use Rattle.types.specs.Edition.{plain}
@@ -73,11 +73,11 @@ written_once xs ys f g e =
     ap (λ (x : Sheet). x.entries) k
 
 -- ---- the answer of `check`, whose contract is counted_of (read_sheet s): done exactly if the sheet was written
-pub good_written : (s : List ℕ) (n : ℕ) → Bytes s → counted.Done n ≡ counted_of (read_sheet s) → (es : List Entry) × Written s es (length s) × (length es ≡ n)
+pub good_written : (s : List ℕ) (n : ℕ) → Bytes s → Ok n ≡ counted_of (read_sheet s) → (es : List Entry) × Written s es (length s) × (length es ≡ n)
 good_written s n bytes e =
     let w = was_good (read_sheet s) n e in
     let a = back.accepted s w.0 w.1 bytes w.2 in
     (w.0.entries, record { raw = a.raw; writable = a.writable; bytes = a.bytes; same = a.same; ends = refl }, w.3)
 
-pub written_good : (s : List ℕ) (es : List Entry) → Written s es (length s) → counted.Done (length es) ≡ counted_of (read_sheet s)
+pub written_good : (s : List ℕ) (es : List Entry) → Written s es (length s) → Ok (length es) ≡ counted_of (read_sheet s)
 written_good s es w = sym (ap counted_of (reads s es (length s) w))

@@ -20,8 +20,10 @@ use Rattle.operand.proofs.Shapes.{shape_small, shape_in_lem, count_small}
 use Rattle.low.specs.Bytes.{lows, whole, part, numbers, eights}
 use Rattle.low.proofs.Lows.{lows_long}
 use Rattle.low.proofs.Eights.{eights_long}
+use Rattle.std.specs.Prelude.{Result}
+use Rattle.low.specs.declared.Refused.{Refused}
+use Rattle.sheet.specs.Record.{headed}
 use Rattle.sheet.specs.declared.Head.{Head}
-use Rattle.sheet.specs.declared.Head.TheVariants as head
 use Rattle.low.specs.Read.{Read, found, refused, must, then_read, read_as, placed_from}
 use Rattle.sheet.specs.Tree.{Expr, literal, reference, unary, binary, Entry, setting, expression, entry_stage}
 use Rattle.sheet.specs.Node.{all_proper, components, literal_head, value_at, literal_ok, read_literal, operator_known, operands, read_operator}
@@ -245,9 +247,9 @@ record_back stages s at e g l w =
     let f : at + 5 + n ≤ length s = lies_end s (at + 5) b w₅ in
     let known : stage_known (get_or s (at + 2) 0) ≡ true = le-leb (get_or s (at + 2) 0) 3 (omega (arith, stage_small stages e g)) in
     let mark = both_true _ _ (eq-eqb (get_or s at 0) 213 (lies_first s at 213 _ w)) (eq-eqb (get_or s (at + 1) 0) 23 (lies_first s (at + 1) 23 _ w₁)) in
-    let h : read_head s at ≡ head.Record (stage_byte e) (at + 5) n =
-    sym (head_record s at (omega arith) mark known n m f) ∙ ap (λ (x : ℕ). head.Record x (at + 5) n) k in
-    ap (λ (x : Head). on_head plain x stages s) h
+    let h : read_head s at ≡ headed (stage_byte e) (at + 5) n =
+    sym (head_record s at (omega arith) mark known n m f) ∙ ap (λ (x : ℕ). headed x (at + 5) n) k in
+    ap (λ (x : Result Head Refused). on_head plain x stages s) h
     ∙ ap (λ (x : List ℕ). placed_from (at + 5) (read_body plain stages (stage_byte e) x)) (lies_part s (at + 5) b w₅)
     ∙ ap (placed_from (at + 5)) (body_back stages e g)
     ∙ ends _ (at + 5 + n) (at + length (write_record e)) (omega arith)

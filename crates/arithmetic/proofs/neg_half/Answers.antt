@@ -3,7 +3,6 @@ use native.Mathlib.Omega.{arith}
 use Rattle.rounding.specs.Kind.{half}
 use Rattle.rounding.proofs.Units.{half_sized}
 use Rattle.arithmetic.proofs.Negated.{sign_set, half_nan, half_cleared}
-use borrow.Author.Rules.{rules}
 use Rattle.arithmetic.proofs.neg_half.Goals as goal
 
 pub returns-then-bits-gt31744 : goal.returns-then-bits-gt31744

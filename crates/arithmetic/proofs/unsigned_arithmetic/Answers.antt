@@ -1,36 +1,24 @@
 -- `arithmetic::unsigned_arithmetic` meets its contract. Assumes nothing.
-use Prim.Native.Nat.{ℕ}
-use mathlib.Core.Path.{ap, ◌∙◌}
-use borrow.Author.Tests.{eq-eqb, ne_eqb}
+use Rattle.std.proofs.Common.{ap, ℕ, ◌/◌, ◌%◌, w32, rules}
 use Rattle.value.specs.declared.Scalar.TheVariants.{U32}
-use Rattle.value.specs.declared.Pair.TheVariants as P
 use Rattle.value.specs.Answer.{value}
-use Rattle.types.proofs.Choice.{picked, passed}
-use Rattle.arithmetic.proofs.Arms.{last_answer}
-use borrow.Author.Rules.{rules}
+use Rattle.integer.proofs.Wrap.{wrap_u_pos, wrapping_sub_u}
+use Rattle.arithmetic.proofs.Arms.{divided_arm}
 use Rattle.arithmetic.proofs.unsigned_arithmetic.Goals as goal
 
-pub returns-then-y-eq0 : goal.returns-then-y-eq0
-returns-then-y-eq0 c = rw c.in-6.is (c.in_exec.ensures ∙ picked _ _ (eq-eqb _ 0 c.if-y-eq0.true))
-
-pub returns-then-y-eq0-2 : goal.returns-then-y-eq0-2
-returns-then-y-eq0-2 c =
-    let a = c.args in
-    c.in_exec-then-y-eq0-2.ensures ∙ picked _ _ (eq-eqb _ 0 c.if-y-eq0-2.true) ∙ last_answer a.op a.stage (P.U32 a.x a.y) c.in_default.in_default-own.rest
-
 pub returns-in-3 : goal.returns-in-3
-returns-in-3 c = rw c.in-3.is (ap (λ (n : ℕ). value (U32 n)) c.add_u32.ensures)
+returns-in-3 c = rw c.in-3.is (ap (λ (n : ℕ). value (U32 n)) (wrap_u_pos w32 _))
 
 pub returns-in-4 : goal.returns-in-4
-returns-in-4 c = rw c.in-4.is (ap (λ (n : ℕ). value (U32 n)) c.sub_u32.ensures)
+returns-in-4 c = rw c.in-4.is (ap (λ (n : ℕ). value (U32 n)) (wrapping_sub_u w32 c.args.x c.args.y c.ranges.x c.ranges.y))
 
 pub returns-in-5 : goal.returns-in-5
 returns-in-5 c = rw c.in-5.is (ap (λ (n : ℕ). value (U32 n)) c.mul_u32.ensures)
 
-pub returns-else-y-eq0 : goal.returns-else-y-eq0
-returns-else-y-eq0 c = rw c.in-6.is (passed _ _ (ne_eqb _ 0 c.if-y-eq0.false))
+pub returns-in-6 : goal.returns-in-6
+returns-in-6 c = rw c.in-6.is (divided_arm ◌/◌ _ _ _ _ c.checked_div.ensures c.map.ensures.cases c.in_exec.ensures c.value_or.ensures)
 
-pub returns-else-y-eq0-2 : goal.returns-else-y-eq0-2
-returns-else-y-eq0-2 c =
-    let a = c.args in
-    passed _ _ (ne_eqb _ 0 c.if-y-eq0-2.false) ∙ last_answer a.op a.stage (P.U32 a.x a.y) c.in_default.in_default-own.rest
+pub returns-in_default : goal.returns-in_default
+returns-in_default c =
+    let e = divided_arm ◌%◌ _ _ _ _ c.checked_rem.ensures c.map-in_default.ensures.cases c.in_exec-in_default.ensures c.value_or-in_default.ensures in
+    search rules

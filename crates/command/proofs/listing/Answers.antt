@@ -1,22 +1,29 @@
 -- The text where it fits, and else as much of a line that says so as fits.
-use borrow.Author.Rules.{rules}
+use mathlib.Core.Path.{◌≡◌, sym}
+use mathlib.Core.List.{List}
+use Prim.Native.Nat.{ℕ, ◌≤◌}
 use native.Mathlib.Omega.{arith}
-use Rattle.text.proofs.Pieces.{counts_text}
-use Rattle.command.proofs.Judging.{printed_line, printed_cut, printed_text}
+use borrow.Author.Rules.{rules}
+use lib.ListN.{length}
+use Rattle.text.specs.Text.{Put}
+use Rattle.command.specs.Listing.{printed, listing_of}
+use Rattle.command.proofs.Judging.{printed_text, printed_short}
 use Rattle.command.proofs.listing.Goals as goal
 
-pub returns-then-k-out : goal.returns-then-k-out
-returns-then-k-out c =
-    let whole = c.whole-n in
-    record { put = printed_line c.complain-k.ensures whole.ensures (omega (arith, c.if-out-n.true)) (omega arith); prefix_len = counts_text _ _ (omega arith) }
+pub returns-then-room-measured-clause-put : goal.returns-then-room-measured-clause-put
+returns-then-room-measured-clause-put c =
+    let s = c.args in
+    let put = printed_short c.complain.ensures.shows c.whole.ensures.shows c.if-room-measured.true c.min.result c.min.ensures in
+    let as_put : (m : List ℕ) → m ≡ c.complain.new.self.out.now → Put s.out.now m 0 c.min.result (printed (length s.out.now) (listing_of s.line.now s.readable s.bytes.now)) =
+    λ m e. rw e put in
+    search (rules, as_put, sym c.complain.ensures.same)
 
-pub returns-else-k-out : goal.returns-else-k-out
-returns-else-k-out c =
-    let whole = c.whole-n in
-    record { put = printed_cut c.complain-k.ensures whole.ensures (omega (arith, c.if-out-n.true)) (omega arith) _ (omega arith); prefix_len = counts_text _ _ (omega arith) }
-
-pub returns : goal.returns
-returns c =
-    let measured = c.whole-n.ensures.next in
-    let next = c.whole.ensures.next in
-    record { put = printed_text c.whole.ensures (omega arith); prefix_len = counts_text _ _ (omega arith) }
+pub returns-clause-put : goal.returns-clause-put
+returns-clause-put c =
+    let s = c.args in
+    let q = c.whole-2.new.self in
+    let fits : q.at ≤ length s.out.now = omega (arith, c.whole.ensures.shows.next, c.whole-2.ensures.shows.next) in
+    let put = printed_text c.whole-2.ensures.shows fits in
+    let as_put : (m : List ℕ) → m ≡ q.out.now → Put s.out.now m 0 q.at (printed (length s.out.now) (listing_of s.line.now s.readable s.bytes.now)) =
+    λ m e. rw e put in
+    search (rules, as_put, sym c.whole-2.ensures.same)

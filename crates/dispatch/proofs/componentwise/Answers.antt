@@ -1,6 +1,5 @@
 -- `dispatch::componentwise` meets its contract. Assumes nothing.
 use Prim.Native.Nat.{◌≤◌}
-use borrow.Author.Rules.{rules}
 use Rattle.operand.proofs.Shapes.{count_small}
 use Rattle.components.proofs.Places.{stride_inside}
 use Rattle.pairing.specs.Pairing.{result_shape}
@@ -18,8 +17,8 @@ steps-run-requires c =
     let p = c.requires in
     let g = c.args in
     let n : c.count.result ≤ 16 =
-    rw (c.count.ensures, c.result_shape-s.ensures) (count_small (result_shape g.a g.b) (result_small _ _ p.0 p.1)) in
-    (rw c.stride.ensures (stride_inside g.a _ n), rw c.stride-2.ensures (stride_inside g.b _ n), n)
+    rw (c.count.ensures, c.result_shape-s.ensures) (count_small (result_shape g.l.0 g.r.0) (result_small _ _ p.0 p.1)) in
+    (rw c.stride.ensures (stride_inside g.l.0 _ n), rw c.stride-2.ensures (stride_inside g.r.0 _ n), n)
 
 pub returns : goal.returns
 unfolding by_component

@@ -1,7 +1,6 @@
 -- `dispatch::work` meets its contract. Assumes nothing.
 use mathlib.Core.Path.{◌∙◌, ap}
 use Prim.Native.Nat.{ℕ}
-use borrow.Author.Rules.{rules}
 use Rattle.operand.specs.Outcome.{refused_with}
 use Rattle.pairing.proofs.Picks.{pick_yes, pick_no}
 use Rattle.dispatch.specs.Meaning.{on_converted}

@@ -8,13 +8,13 @@ use Rattle.exact.proofs.mul_i64.Goals as goal
 
 pub returns-then-product_over : goal.returns-then-product_over
 returns-then-product_over c =
-    let left = c.size_i64-a.ensures in
-    product_refused c.ranges.x c.ranges.y left c.size_i64-b.ensures c.product_over.ensures c.if-product_over.true
+    let left = c.unsigned_abs-a.ensures.value in
+    product_refused c.ranges.x c.ranges.y left c.unsigned_abs-b.ensures.value c.product_over.ensures c.if-product_over.true
 
 pub overflow_mul-a : goal.overflow_mul-a
 overflow_mul-a c = product_fits w64 _ _ c.product_over.ensures c.if-product_over.false
 
 pub returns : goal.returns
 returns c =
-    let left = c.size_i64-a.ensures in
-    c.with_sign.ensures ∙ ap whole_of (product_is w64 _ _ c.ranges.x c.ranges.y _ _ left c.size_i64-b.ensures)
+    let left = c.unsigned_abs-a.ensures.value in
+    c.with_sign.ensures ∙ ap whole_of (product_is w64 _ _ c.ranges.x c.ranges.y _ _ left c.unsigned_abs-b.ensures.value)

@@ -1,5 +1,4 @@
 -- A change is the change that marks, with marks of its own.
-use borrow.Author.Rules.{rules}
 use Rattle.fold.proofs.change.Goals as goal
 
 pub returns : goal.returns

@@ -1,6 +1,5 @@
 -- `operand::count` meets its contract. Assumes nothing.
 use native.Mathlib.Omega.{arith}
-use borrow.Author.Rules.{rules}
 use Rattle.operand.proofs.Shapes.{count_small}
 use Rattle.operand.proofs.count.Goals as goal
 

@@ -4,7 +4,6 @@ use mathlib.Core.Bool.{true}
 use Prim.Native.Nat.{◌≤◌}
 use native.Mathlib.Omega.{arith}
 use borrow.Author.Tests.{not-true, not-false}
-use borrow.Author.Rules.{rules}
 use Rattle.operand.specs.Operand.{shape_ok, operand_formed}
 use Rattle.operand.proofs.Shapes.{shape_small, count_small}
 use Rattle.operand.proofs.formed.Goals as goal

@@ -1,6 +1,5 @@
 -- `operand::refused_as` meets its contract. Assumes nothing.
 use mathlib.Core.Path.{sym, ◌∙◌}
-use borrow.Author.Rules.{rules}
 use borrow.Author.Tests.{not-true, not-false}
 use Rattle.types.proofs.Choice.{picked, passed}
 use Rattle.operand.proofs.refused_as.Goals as goal

@@ -1,5 +1,4 @@
 -- `operand::shape_ok` meets its contract. Assumes nothing.
-use borrow.Author.Rules.{rules}
 use Rattle.operand.proofs.shape_ok.Goals as goal
 
 pub returns : goal.returns

@@ -1,5 +1,4 @@
 -- `operators::staged` meets its contract. Assumes nothing.
-use borrow.Author.Rules.{rules}
 use Rattle.operators.proofs.staged.Goals as goal
 
 pub returns : goal.returns

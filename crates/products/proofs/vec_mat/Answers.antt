@@ -1,29 +1,36 @@
 -- `products::vec_mat` meets its contract. Assumes nothing.
-use mathlib.Core.Path.{◌≡◌}
-use Prim.Native.Nat.{◌-◌, ◌≤◌}
-use native.Mathlib.Omega.{arith}
-use borrow.Author.Rules.{rules}
-use Rattle.components.specs.Components.{run_result}
-use Rattle.products.specs.Products.{sum_to, vector_matrix}
-use Rattle.products.proofs.Sums.{sum_more}
-use Rattle.products.proofs.Places.{from_inside}
+use Rattle.std.proofs.Common.{◌≡◌, ◌+◌, ◌-◌, arith}
+use Rattle.std.proofs.lemmas.Result.{err_from_is_err_and}
+use Rattle.products.proofs.Sums.{rows_first, rows_refused, rows_more, rows_stop}
 use Rattle.products.proofs.vec_mat.Goals as goal
 
-pub steps-sum-requires : goal.steps-sum-requires
-steps-sum-requires c =
-    let p = c.requires in
-    (from_inside _ _ _ (omega arith) (omega arith) p.2, from_inside _ _ _ (omega arith) p.1 p.2, omega arith)
+pub returns-in_err-sum : goal.returns-in_err-sum
+returns-in_err-sum c =
+    let a = c.args in
+    let p = err_from_is_err_and c.from_residual.result c.from_residual.ensures.1 in
+    rw (p.1, p.2) (rows_stop _ _ _ _ a.rows _ 0 _ (omega arith) (rows_first _ _ _ _ _ _ _ c.in_err-sum.ensures))
 
 pub loop-k-init : goal.loop-k-init
-unfolding sum_to
-loop-k-init c = (omega arith, omega arith, c.steps-sum.ensures)
+loop-k-init c = rows_first _ _ _ _ _ _ _ c.in_ok-sum.ensures
+
+pub returns-in_err-p : goal.returns-in_err-p
+returns-in_err-p c =
+    let a = c.args in
+    let p = err_from_is_err_and c.from_residual-in_err-p.result c.from_residual-in_err-p.ensures.1 in
+    rw (p.1, p.2)
+    (rows_stop _ _ _ _ _ _ (c.loop-k.k + 1 - 1) _ (omega arith) (rows_refused _ _ _ _ _ _ _ _ c.loop-k.auto.k c.loop-k.invariant _ c.in_err-p.ensures))
+
+pub returns-in_err-sum-2 : goal.returns-in_err-sum-2
+returns-in_err-sum-2 c =
+    let p = err_from_is_err_and c.from_residual-in_err-sum-2.result c.from_residual-in_err-sum-2.ensures.1 in
+    rw (p.1, p.2)
+    (rows_stop _ _ _ _ _ _ (c.loop-k.k + 1 - 1) _ (omega arith)
+    (rows_more _ _ _ _ _ _ _ _ c.loop-k.auto.k c.loop-k.invariant _ _ c.in_ok-p.ensures c.in_err-sum-2.ensures))
 
 pub loop-k-preserved : goal.loop-k-preserved
-loop-k-preserved c =
-    let v = c.loop-k.invariant in
-    (omega arith, omega arith, sum_more _ _ _ _ _ v.0 v.2 c.round-sum.ensures)
+loop-k-preserved c = rows_more _ _ _ _ _ _ _ _ c.loop-k.auto.k c.loop-k.invariant _ _ c.in_ok-p.ensures c.in_ok-sum-2.ensures
 
 pub returns : goal.returns
 returns c =
     let e : c.loop-k.k ≡ c.args.rows = omega arith in
-    rw e at c.loop-k.invariant.2
+    rw e at c.loop-k.invariant

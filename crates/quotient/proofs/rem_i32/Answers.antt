@@ -1,15 +1,8 @@
 -- `quotient::rem_i32` meets its contract. Assumes nothing.
-use mir.Syntax.{w32}
-use Rattle.quotient.specs.declared.SignedQuotient.TheVariants.{Value, Undefined}
-use Rattle.quotient.proofs.Division.{tested, asked, rem_is}
-use borrow.Author.Rules.{rules}
+use Rattle.std.proofs.Common.{w32}
+use Rattle.std.specs.Int.Signed.{rem_z}
+use Rattle.quotient.proofs.Division.{quotient_found}
 use Rattle.quotient.proofs.rem_i32.Goals as goal
 
-pub returns-then-none_i32 : goal.returns-then-none_i32
-returns-then-none_i32 c = rw (tested w32 _ _ c.ranges.x c.ranges.y c.none_i32.ensures c.if-none_i32.true)
-
-pub nonzero_rem-result : goal.nonzero_rem-result
-nonzero_rem-result c = asked w32 _ _ c.ranges.x c.ranges.y c.none_i32.ensures c.if-none_i32.false
-
 pub returns : goal.returns
-returns c = rem_is w32 _ _ c.ranges.x c.ranges.y c.none_i32.ensures Undefined Value c.if-none_i32.false
+returns c = quotient_found w32 _ rem_z _ _ c.ranges.x c.ranges.y c.checked_rem.ensures

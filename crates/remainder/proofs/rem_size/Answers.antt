@@ -1,5 +1,5 @@
 -- By whether the left one stands fewer places up. Assumes nothing.
-use Rattle.std.proofs.Common.{◌≡◌, ℕ, ◌≤◌, ◌<◌, ◌+◌, ◌-◌, ◌*◌, ◌%◌, ◌^◌, ◌∙◌, subst, arith}
+use Rattle.std.proofs.Common.{◌≡◌, ℕ, ◌<◌, ◌+◌, ◌-◌, ◌*◌, ◌%◌, ◌^◌, ◌∙◌, subst, arith}
 use Rattle.std.proofs.Math.Nat.{mul-le-mul}
 use Rattle.remainder.specs.Units.{digits_of, places_of, units_of}
 use Rattle.remainder.proofs.Steps.{digits_lt, digits_pos, pattern_lt, places_most, left_stays, left_over}

@@ -3,7 +3,6 @@ use mathlib.Core.Path.{◌≡◌, ◌∙◌}
 use Prim.Native.Nat.{◌<◌}
 use native.Mathlib.Omega.{arith}
 use borrow.Author.Tests.{leb-true}
-use borrow.Author.Rules.{rules}
 use Rattle.low.proofs.Tests.{both}
 use Rattle.scalar.proofs.Codes.{no_arithmetic, arithmetic_code, comparison_code, bits_code, no_code}
 use Rattle.scalar.proofs.binary_op.Goals as goal
@@ -14,13 +13,13 @@ returns-then-op c =
     let k = both _ _ c.if-op.true in
     c.arithmetic_pair.ensures ∙ arithmetic_code a.stage a.p a.op (leb-true _ _ k.0) (leb-true _ _ k.1)
 
-pub returns-in-8 : goal.returns-in-8
-returns-in-8 c =
+pub returns-in-8-to-13 : goal.returns-in-8-to-13
+returns-in-8-to-13 c =
     let a = c.args in
     c.compare.ensures ∙ comparison_code a.stage a.p a.op (omega arith) (omega arith)
 
-pub returns-in-14 : goal.returns-in-14
-returns-in-14 c =
+pub returns-in-14-to-16 : goal.returns-in-14-to-16
+returns-in-14-to-16 c =
     let a = c.args in
     c.bits_pair.ensures ∙ bits_code a.stage a.p a.op (omega arith) (omega arith)
 

@@ -1,13 +1,12 @@
 -- `scalar::binary_step` meets its contract. Assumes nothing.
-use Rattle.scalar.proofs.Steps.{by_shift, by_pair}
 use borrow.Author.Rules.{rules}
+use Rattle.scalar.specs.Step.{step_of}
+use Rattle.scalar.proofs.Steps.{by_pair}
 use Rattle.scalar.proofs.binary_step.Goals as goal
 
 pub returns-then-op-ge17 : goal.returns-then-op-ge17
-returns-then-op-ge17 c =
-    let a = c.args in
-    by_shift a.op a.stage a.ty a.l a.r c.stage_of-at.ensures c.if-op-ge17.true
-    c.scalar_of-x.ensures c.scalar_of.ensures c.shift_op.ensures c.step_of.ensures
+unfolding step_of
+returns-then-op-ge17 c = search rules
 
 pub returns : goal.returns
 returns c =

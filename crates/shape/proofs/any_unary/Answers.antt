@@ -1,18 +1,23 @@
 -- `shape::any_unary` meets its contract. Assumes nothing.
-use borrow.Author.Rules.{rules}
+use Rattle.std.proofs.Common.{ap, ◌∙◌}
+use Rattle.operand.specs.Operand.{operand_formed}
 use Rattle.operand.proofs.Shapes.{formed_small}
-use Rattle.shape.proofs.Calls.{unary_formed, unary_refused, unary_called}
+use Rattle.dispatch.specs.Meaning.{unary_judged}
+use Rattle.shape.proofs.Calls.{reshaped, unary_formed, unary_refused, unary_called}
 use Rattle.shape.proofs.any_unary.Goals as goal
 
-pub returns-then-fault-ne0 : goal.returns-then-fault-ne0
-returns-then-fault-ne0 c =
-    unary_refused _ _ _ _ _ c.unary_known.ensures c.formed.ensures _ c.call_fault-fault.ensures _ c.if-fault-ne0.true c.refused.ensures
+pub returns-in-Err : goal.returns-in-Err
+returns-in-Err c =
+    let f = c.formed.ensures ∙ ap operand_formed (reshaped c.args.v _ c.shape-s.ensures) in
+    unary_refused _ _ c.args.v _ _ c.unary_known.ensures f _ c.call_fault.ensures _ _ c.in-Err.is c.refused.ensures
 
 pub unary_judge-requires : goal.unary_judge-requires
 unary_judge-requires c =
-    let a = c.args in
-    formed_small _ (unary_formed a.op a.stage _ _ _ c.unary_known.ensures c.formed.ensures _ c.call_fault-fault.ensures c.if-fault-ne0.false)
+    let f = c.formed.ensures ∙ ap operand_formed (reshaped c.args.v _ c.shape-s.ensures) in
+    rw c.shape-s.ensures (formed_small _ (unary_formed c.args.op c.args.stage c.args.v _ _ c.unary_known.ensures f _ c.call_fault.ensures c.in_default.is))
 
 pub returns : goal.returns
 returns c =
-    unary_called _ _ _ _ _ c.unary_known.ensures c.formed.ensures _ c.call_fault-fault.ensures _ c.if-fault-ne0.false c.unary_judge.ensures
+    let e = reshaped c.args.v _ c.shape-s.ensures in
+    unary_called _ _ c.args.v _ _ c.unary_known.ensures (c.formed.ensures ∙ ap operand_formed e) _ c.call_fault.ensures _ c.in_default.is
+    (c.unary_judge.ensures ∙ ap (unary_judged c.args.op) e)

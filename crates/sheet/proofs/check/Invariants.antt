@@ -1,11 +1,7 @@
 -- The invariant: the entries done, their stages in the front of the array, and the rest of the sheet to read.
-use native.Mathlib.Omega.{arith}
-use borrow.Author.Rules.{rules}
-use mathlib.Core.Path.{refl, sym}
 use Prim.Native.Nat.{◌-◌}
 use lib.ListN.{length}
-use lib.Seq.{length-take-le}
-use Rattle.sheet.proofs.Sheets.{Going, going_start, going_end, going_full, going_bad, going_on, sheet_long, record_past}
+use Rattle.sheet.proofs.Sheets.{Going}
 use Rattle.sheet.proofs.check.Given as goal
 
 abbrev pub invariant-loop-at : goal.invariant-loop-at

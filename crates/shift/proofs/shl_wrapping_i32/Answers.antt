@@ -1,8 +1,7 @@
 -- `shift::shl_wrapping_i32` meets its contract. Assumes nothing.
-use mir.Syntax.{w32}
-use Rattle.shift.proofs.Shift.{wrap_shl}
-use borrow.Author.Rules.{rules}
+use Rattle.std.proofs.Common.{w32}
+use Rattle.shift.proofs.Shift.{shl_seen}
 use Rattle.shift.proofs.shl_wrapping_i32.Goals as goal
 
 pub returns : goal.returns
-returns c = wrap_shl w32 _ _ c.ranges.x
+returns c = shl_seen w32 _ _ c.ranges.x c.wrapping_shl.ensures

@@ -1,6 +1,5 @@
 -- `types::common` meets its contract. Assumes nothing.
 use Rattle.types.proofs.Goes.{to_left, to_right, to_none}
-use borrow.Author.Rules.{rules}
 use Rattle.types.proofs.common.Goals as goal
 
 pub returns-then-a-b : goal.returns-then-a-b

@@ -1,9 +1,9 @@
 -- `types::row_of` meets its contract. Assumes nothing.
 use mathlib.Core.Bool.{false}
+use Rattle.std.specs.Prelude.{None}
 use mathlib.Core.Path.{◌∙◌}
-use Rattle.types.specs.Types.{no_type, row, rows}
+use Rattle.types.specs.Types.{row, rows}
 use Rattle.types.proofs.Choice.{past_all}
-use borrow.Author.Rules.{rules}
 use Rattle.types.proofs.row_of.Goals as goal
 
 pub returns-in-0 : goal.returns-in-0
@@ -28,4 +28,4 @@ pub returns-in-6 : goal.returns-in-6
 returns-in-6 c = rw c.in-6.is c.row_with-in-6.ensures
 
 pub returns-in_default : goal.returns-in_default
-returns-in_default c = c.row_with-in_default.ensures ∙ past_all rows (row no_type 0 false) c.args.ty c.in_default.in_default-own.rest
+returns-in_default c = c.row_with-in_default.ensures ∙ past_all rows (row None 0 false) c.args.ty c.in_default.in_default-own.rest

@@ -1,5 +1,4 @@
 -- `types::unary_right` meets its contract. Assumes nothing.
-use borrow.Author.Rules.{rules}
 use Rattle.types.proofs.Rows.{truth_code, signed_codes}
 use Rattle.types.proofs.unary_right.Goals as goal
 

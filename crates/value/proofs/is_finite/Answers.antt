@@ -1,11 +1,10 @@
--- `value::is_finite` meets its contract. Assumes nothing.
-use Rattle.value.proofs.Widths.{whole_finite}
-use borrow.Author.Rules.{rules}
-use borrow.Enum.Refused.{opened}
+-- Finite is what the library's own test tells. Assumes nothing.
+use mathlib.Core.Path.{◌∙◌}
+use Rattle.rounding.proofs.Finite.{finite_is}
 use Rattle.value.proofs.is_finite.Goals as goal
 
-pub returns-in-F16 : goal.returns-in-F16
-returns-in-F16 c = rw c.in-F16.is c.finite_half.ensures
+pub returns-in-AbstractFloat : goal.returns-in-AbstractFloat
+returns-in-AbstractFloat c = rw c.in-AbstractFloat.is (c.is_finite.ensures.value ∙ finite_is _)
 
-pub returns-in_default : goal.returns-in_default
-returns-in_default c = whole_finite c.args.s (opened c.in_default.in_default-own.keys4)
+pub returns-in-F32 : goal.returns-in-F32
+returns-in-F32 c = rw c.in-F32.is (c.is_finite-in-F32.ensures.value ∙ finite_is _)

@@ -1,8 +1,7 @@
 -- What a node means, with its operands: the bytes left fall at each call.
-use Prim.Native.Nat.{ℕ, ◌<◌, ◌+◌, ◌-◌}
 use mathlib.Core.Path.{refl, ap, ◌∙◌}
 use native.Mathlib.Omega.{arith}
-use lib.ListN.{length}
+use borrow.Author.Rules.{rules}
 use Rattle.work.specs.Inside.{tag_byte}
 use Rattle.work.proofs.Trees.{starts, four, literal_stands, reference_fits, operator_there, first_stands, second_stands, second_later, literal_means, reference_means, one_means, two_means}
 use Rattle.work.proofs.+walk_node_walk_operands.Goals as goal
@@ -22,8 +21,7 @@ walk_node-walk_operands-requires t c =
 
 pub walk_node-walk_operands-requires-in_default : goal.walk_node-walk_operands-requires-in_default
 walk_node-walk_operands-requires-in_default t c =
-    let rest = c.in_default.in_default-own.rest in
-    let tag = four _ _ _ _ _ c.requires.parsed rest.0.0.1 rest.0.1 rest.1 in
+    let tag = four _ _ _ _ _ c.requires.parsed (search rules) (search rules) (search rules) in
     (omega (arith, starts _ _ _ _ _ c.requires.parsed), (c.requires, tag))
 
 pub walk_node-returns-in-1 : goal.walk_node-returns-in-1
@@ -67,8 +65,8 @@ walk_operands-walk_node-second-requires t c =
 
 pub walk_operands-returns-then-two : goal.walk_operands-returns-then-two
 walk_operands-returns-then-two t c =
-    two_means _ _ _ _ _ _ _ c.walk_node-first.ensures (c.requires.1 ∙ ap tag_byte c.if-two.true) _ c.walk_node-second.ensures c.on_two-answer.ensures refl
+    two_means _ _ _ _ _ _ _ c.walk_node-first.ensures (c.requires.1 ∙ ap tag_byte c.if-two.true) _ c.walk_node-second.ensures c.on_two.ensures refl
 
 pub walk_operands-returns : goal.walk_operands-returns
 walk_operands-returns t c =
-    one_means _ _ _ _ _ _ _ c.walk_node-first.ensures (c.requires.1 ∙ ap tag_byte c.if-two.false) c.on_one-answer.ensures refl
+    one_means _ _ _ _ _ _ _ c.walk_node-first.ensures (c.requires.1 ∙ ap tag_byte c.if-two.false) c.on_one.ensures refl

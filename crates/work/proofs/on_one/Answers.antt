@@ -1,10 +1,12 @@
 -- A refused operand ends the node; else the operator answers.
-use borrow.Author.Rules.{rules}
-use Rattle.work.proofs.Trees.{one_ends, one_value}
+use Rattle.std.proofs.Common.{rules}
+use Rattle.work.specs.Meaning.{on_one}
 use Rattle.work.proofs.on_one.Goals as goal
 
 pub returns-in_default : goal.returns-in_default
-returns-in_default c = one_ends _ _ _ _ c.has_value.ensures c.in_default.is
+unfolding on_one
+returns-in_default c = search rules
 
 pub returns : goal.returns
-returns c = one_value _ _ _ _ c.has_value.ensures c.in-Value.is _ c.unary.ensures
+unfolding on_one
+returns c = search rules

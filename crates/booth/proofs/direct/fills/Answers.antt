@@ -1,5 +1,4 @@
 -- `booth::direct::fills` meets its contract.
-use borrow.Author.Rules.{rules}
 use Rattle.booth.proofs.direct.fills.Goals as goal
 
 pub returns : goal.returns

@@ -1,5 +1,4 @@
 -- `booth::direct::general` meets its contract.
-use borrow.Author.Rules.{rules}
 use Rattle.booth.proofs.direct.general.Goals as goal
 
 pub returns : goal.returns

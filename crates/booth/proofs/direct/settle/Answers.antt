@@ -1,8 +1,6 @@
 -- `booth::direct::settle` meets its contract.
 use mathlib.Core.Path.{sym, ◌∙◌}
 use Rattle.booth.proofs.Settled.{settled_call, settled_wrong_size, settled_refused, settled_written}
-use borrow.Author.Rules.{rules}
-use borrow.Author.Tests.{not-true, not-false}
 use Rattle.booth.proofs.direct.settle.Goals as goal
 
 pub returns-then-call_refused : goal.returns-then-call_refused
@@ -15,9 +13,9 @@ returns-then-slot-ne136 c =
 pub returns-then-not-fills : goal.returns-then-not-fills
 returns-then-not-fills c =
     settled_refused _ _ _ _ c.call_refused.ensures c.if-call_refused.false c.if-slot-ne136.false c.pack-answer.ensures
-    (sym c.fills.ensures ∙ not-true _ c.if-not-fills.true-raw)
+    (sym c.fills.ensures ∙ c.if-not-fills.true)
 
 pub returns : goal.returns
 returns c =
     settled_written _ _ _ _ c.call_refused.ensures c.if-call_refused.false c.if-slot-ne136.false c.pack-answer.ensures _
-    (sym c.fills.ensures ∙ not-false _ c.if-not-fills.false-raw) c.put.ensures
+    (sym c.fills.ensures ∙ c.if-not-fills.false) c.put.ensures

@@ -10,53 +10,53 @@ use Rattle.cases.proofs.roundings.answer.Goals as goal
 
 pub returns-in-1 : goal.returns-in-1
 unfolding conversion_of
-returns-in-1 c = rw (c.in-1.is, c.f64_to_half.ensures, c.f64_of_bits.ensures)
+returns-in-1 c = rw (c.in-1.is, c.f64_to_half.ensures, c.of_bits.ensures)
 
 pub returns-in-2 : goal.returns-in-2
 unfolding conversion_of
-returns-in-2 c = rw (c.in-2.is, c.f32_bits.ensures, c.f64_to_f32.ensures, c.f64_of_bits-in-2.ensures)
+returns-in-2 c = rw (c.in-2.is, c.bits.ensures.kept, c.f64_to_f32.ensures, c.of_bits-in-2.ensures)
 
 pub returns-in-3 : goal.returns-in-3
 unfolding conversion_of
-returns-in-3 c = rw (c.in-3.is, c.f32_to_half.ensures, c.f32_of_bits.ensures)
+returns-in-3 c = rw (c.in-3.is, c.f32_to_half.ensures, c.of_bits-in-3.ensures)
 
 pub returns-in-4 : goal.returns-in-4
 unfolding conversion_of
-returns-in-4 c = rw (c.in-4.is, c.f32_bits-in-4.ensures, c.half_to_f32.ensures)
+returns-in-4 c = rw (c.in-4.is, c.bits-in-4.ensures.kept, c.half_to_f32.ensures)
 
 pub returns-in-5 : goal.returns-in-5
 unfolding conversion_of
 returns-in-5 c =
-    let f : SFits w64 c.i64_of_bits.result = search rules in
-    rw (c.in-5.is, c.i64_to_half.ensures, to_z-of_z w64 _ f, c.i64_of_bits.ensures)
+    let f : SFits w64 c.cast_signed.result = search rules in
+    rw (c.in-5.is, c.i64_to_half.ensures, to_z-of_z w64 _ f, c.cast_signed.ensures)
 
 pub returns-in-6 : goal.returns-in-6
 unfolding conversion_of
 returns-in-6 c =
-    let f : SFits w64 c.i64_of_bits-in-6.result = search rules in
-    rw (c.in-6.is, c.f32_bits-in-6.ensures, c.i64_to_f32.ensures, to_z-of_z w64 _ f, c.i64_of_bits-in-6.ensures)
+    let f : SFits w64 c.cast_signed-in-6.result = search rules in
+    rw (c.in-6.is, c.bits-in-6.ensures.kept, c.i64_to_f32.ensures, to_z-of_z w64 _ f, c.cast_signed-in-6.ensures)
 
 pub returns-in-7 : goal.returns-in-7
 unfolding conversion_of
 returns-in-7 c =
-    let f : SFits w64 c.i64_of_bits-in-7.result = search rules in
-    rw (c.in-7.is, c.f64_bits.ensures, c.i64_to_f64.ensures, to_z-of_z w64 _ f, c.i64_of_bits-in-7.ensures)
+    let f : SFits w64 c.cast_signed-in-7.result = search rules in
+    rw (c.in-7.is, c.bits-in-7.ensures.kept, c.i64_to_f64.ensures, to_z-of_z w64 _ f, c.cast_signed-in-7.ensures)
 
 pub returns-in-8 : goal.returns-in-8
 unfolding conversion_of
-returns-in-8 c = rw (c.in-8.is, c.f32_bits-in-8.ensures, c.f32_of_bits-in-8.ensures)
+returns-in-8 c = rw (c.in-8.is, c.bits-in-8.ensures.kept, c.of_bits-in-8.ensures)
 
 pub returns-in-9 : goal.returns-in-9
 unfolding conversion_of
-returns-in-9 c = rw (c.in-9.is, c.f64_bits-in-9.ensures, c.f64_of_bits-in-9.ensures)
+returns-in-9 c = rw (c.in-9.is, c.bits-in-9.ensures.kept, c.of_bits-in-9.ensures)
 
 pub returns-in-10 : goal.returns-in-10
 unfolding conversion_of
-returns-in-10 c = rw (c.in-10.is, number_of_test c.finite_f32.result, c.finite_f32.ensures, c.f32_of_bits-in-10.ensures)
+returns-in-10 c = rw (c.in-10.is, number_of_test c.is_finite.result, c.is_finite.ensures, c.of_bits-in-10.ensures)
 
 pub returns-in-11 : goal.returns-in-11
 unfolding conversion_of
-returns-in-11 c = rw (c.in-11.is, number_of_test c.finite_f64.result, c.finite_f64.ensures, c.f64_of_bits-in-11.ensures)
+returns-in-11 c = rw (c.in-11.is, number_of_test c.is_finite-in-11.result, c.is_finite-in-11.ensures, c.of_bits-in-11.ensures)
 
 pub returns-in-12 : goal.returns-in-12
 unfolding conversion_of

@@ -1,40 +1,34 @@
--- After the turns up to entry k the first k entries are marked as they should be; the measure is how many are left.
+-- After the turns up to entry k the first k entries are marked as they should be.
 use native.Mathlib.Omega.{arith}
-use Prim.Native.Nat.{◌≤◌, ◌-◌}
-use Rattle.entries.proofs.Turning.{Marking, ready_few, marking_start, marking_here, marking_few, marking_small, marking_next, marking_done}
+use Rattle.entries.proofs.Turning.{here_bodied, here_few, turned, ready_few, marking_start, marking_here, marking_more, marking_few, marking_small, marking_next, marking_done}
 use Rattle.entries.proofs.depend.dependents.Goals as goal
 
 pub bounds-marks-i : goal.bounds-marks-i
 bounds-marks-i c = ready_few _ _ _ _ c.requires
 
-pub span_at-own-requires : goal.span_at-own-requires
-span_at-own-requires c = tt
-
-pub overflow_add-k : goal.overflow_add-k
-overflow_add-k c = omega (arith, ready_few _ _ _ _ c.requires)
-
 pub loop-k-init : goal.loop-k-init
-loop-k-init c =
-    let ready = c.requires in
-    (omega (arith, ready.among), marking_start _ _ _ _ _ ready c.span_at-own.ensures)
+loop-k-init c = marking_start _ _ _ _ _ c.requires c.span_at-at.ensures
 
-pub turn-t-requires : goal.turn-t-requires
-turn-t-requires c = marking_here _ _ _ _ _ _ _ c.loop-k.invariant.1 c.loop-k-test.true
+pub names_marked-named-requires : goal.names_marked-named-requires
+names_marked-named-requires c =
+    here_bodied _ _ _ c.span_at-r.ensures _ c.body.ensures.bytes _ (marking_here _ _ _ _ _ _ _ c.loop-k.invariant c.loop-k-test.true)
+
+pub bounds-marks-k : goal.bounds-marks-k
+bounds-marks-k c = here_few _ _ _ (marking_here _ _ _ _ _ _ _ c.loop-k.invariant c.loop-k-test.true)
 
 pub overflow_add-count : goal.overflow_add-count
 overflow_add-count c =
-    let test = c.loop-k-test.true in
-    omega (arith, marking_few _ _ _ _ _ _ _ c.loop-k.invariant.1, marking_small _ _ _ _ _ _ _ c.loop-k.invariant.1 test _ _ c.turn-t.ensures)
-
-pub overflow_add-k-in-loop-k : goal.overflow_add-k-in-loop-k
-overflow_add-k-in-loop-k c = omega arith
-
-pub loop-k-smaller : goal.loop-k-smaller
-loop-k-smaller c = omega arith
+    let f = c.loop-k.invariant in
+    let t = c.loop-k-test.true in
+    let w = turned _ _ _ c.span_at-r.ensures _ c.body.ensures.bytes f.accepted.sheet _ f.place (marking_more _ _ _ _ _ _ _ f t) _ _ c.names_marked-named.ensures _ c.from-count.ensures in
+    omega (arith, marking_few _ _ _ _ _ _ _ f, marking_small _ _ _ _ _ _ _ f t _ _ _ w)
 
 pub loop-k-preserved : goal.loop-k-preserved
 loop-k-preserved c =
-    (omega arith, marking_next _ _ _ _ _ _ _ c.loop-k.invariant.1 c.loop-k-test.true _ _ c.turn-t.ensures)
+    let f = c.loop-k.invariant in
+    let t = c.loop-k-test.true in
+    let w = turned _ _ _ c.span_at-r.ensures _ c.body.ensures.bytes f.accepted.sheet _ f.place (marking_more _ _ _ _ _ _ _ f t) _ _ c.names_marked-named.ensures _ c.from-count.ensures in
+    marking_next _ _ _ _ _ _ _ f t _ _ _ w
 
 pub returns : goal.returns
-returns c = marking_done _ _ _ _ _ _ _ c.loop-k.invariant.1 c.loop-k.invariant.0 c.loop-k-test.false
+returns c = marking_done _ _ _ _ _ _ _ c.loop-k.invariant (omega (arith, c.loop-k.auto.k-end)) c.loop-k-test.false

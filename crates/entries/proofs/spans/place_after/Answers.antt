@@ -1,25 +1,25 @@
--- After i turns the place is the one after i records; the measure is how many are left.
+-- After as many turns as there were numbers the place is the one after so many records.
+use mathlib.Core.Path.{◌≡◌, refl, sym, ap, ◌∙◌}
+use mathlib.Core.List.{List, [], ◌∷◌, ◌++◌}
+use Prim.Native.Nat.{ℕ, ◌+◌}
 use native.Mathlib.Omega.{arith}
-use mathlib.Core.Path.{◌≡◌}
-use Prim.Native.Nat.{◌≤◌, ◌-◌}
-use Rattle.entries.specs.Records.{place_after}
-use Rattle.entries.proofs.Places.{place_none, place_more, place_all}
+use lib.ListN.{length, length-append}
+use borrow.Author.Rules.{rules}
+use Rattle.std.proofs.iter.Yields.{nat_range_steps}
+use Rattle.std.proofs.lemmas.Fn.{fold_over}
+use Rattle.std.proofs.lemmas.Iterator.{YieldsList-from_range}
+use Rattle.std.proofs.lemmas.List.FromFn.{length-range_with_len}
+use Rattle.entries.specs.Records.{span_of, place_after}
+use Rattle.entries.proofs.Places.{place_none, place_more}
 use Rattle.entries.proofs.spans.place_after.Goals as goal
 
-pub loop-i-init : goal.loop-i-init
-loop-i-init c = (omega arith, place_none _ _)
-
-pub span_at-r-requires : goal.span_at-r-requires
-span_at-r-requires c = tt
-
-pub overflow_add-i : goal.overflow_add-i
-overflow_add-i c = omega arith
-
-pub loop-i-smaller : goal.loop-i-smaller
-loop-i-smaller c = omega arith
-
-pub loop-i-preserved : goal.loop-i-preserved
-loop-i-preserved c = (omega arith, place_more _ _ _ _ _ c.loop-i.invariant.1 c.span_at-r.ensures)
-
 pub returns : goal.returns
-returns c = place_all _ _ _ _ _ c.loop-i.invariant.0 c.loop-i-test.false c.loop-i.invariant.1
+returns c =
+    let a = c.args in
+    fold_over nat_range_steps (λ (x : ℕ). x) _ (λ (ys : List ℕ) (at : ℕ). at ≡ place_after a.s.now a.from (length ys)) _
+    (λ ys at x b f' j k.
+    let e : b ≡ (span_of a.s.now at).next = search rules in
+    let n : length (ys ++ x ∷ []) ≡ length ys + 1 = omega (arith, length-append ys (x ∷ [])) in
+    (e ∙ place_more _ _ _ _ _ j refl ∙ ap (place_after a.s.now a.from) (sym n), search rules))
+    (record { start = 0; end = a.k }) _ _ _ (YieldsList-from_range 0 a.k a.k refl (omega arith)).runs (place_none _ _) c.fold.ensures.ran
+    ∙ ap (place_after a.s.now a.from) (length-range_with_len 0 a.k)

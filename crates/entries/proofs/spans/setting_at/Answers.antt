@@ -1,6 +1,5 @@
 -- A setting's type is the second byte of its body.
 use Rattle.entries.proofs.Places.{setting_read, setting_none}
-use borrow.Author.Rules.{rules}
 use Rattle.entries.proofs.spans.setting_at.Goals as goal
 
 pub returns-in-Setting : goal.returns-in-Setting

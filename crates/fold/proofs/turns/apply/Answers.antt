@@ -1,6 +1,5 @@
 -- The dependents are marked and counted, the content is put, and the marked entries after it are worked.
 use Rattle.fold.proofs.Steps.{next_placed, applied}
-use borrow.Author.Rules.{rules}
 use Rattle.fold.proofs.turns.apply.Goals as goal
 
 pub work_marked-requires : goal.work_marked-requires

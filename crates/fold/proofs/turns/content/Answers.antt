@@ -1,5 +1,4 @@
 -- The kept bits are the one component in use.
-use borrow.Author.Rules.{rules}
 use Rattle.fold.proofs.Answers.{content_is}
 use Rattle.fold.proofs.turns.content.Goals as goal
 

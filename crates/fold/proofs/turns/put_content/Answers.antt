@@ -1,5 +1,4 @@
 -- The bytes put are those of the content.
-use borrow.Author.Rules.{rules}
 use Rattle.fold.proofs.Steps.{put_content}
 use Rattle.fold.proofs.turns.put_content.Goals as goal
 

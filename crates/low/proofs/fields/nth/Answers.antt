@@ -4,7 +4,6 @@ use mathlib.Core.List.{List}
 use Prim.Native.Nat.{ℕ, ◌*◌}
 use Rattle.low.specs.Bytes.{whole, part}
 use Rattle.low.proofs.Parts.{part_again}
-use borrow.Author.Rules.{rules}
 use Rattle.low.proofs.fields.nth.Goals as goal
 
 pub returns : goal.returns

@@ -1,9 +1,6 @@
--- After n turns the first n numbers are put; the measure is how many are left.
+-- After n turns the first n numbers are put.
 use mathlib.Core.Path.{◌≡◌, ◌∙◌, refl}
-use Prim.Native.Nat.{◌≤◌, ◌-◌}
 use native.Mathlib.Omega.{arith}
-use lib.ListN.{length}
-use Rattle.low.specs.Bytes.{patch}
 use Rattle.low.specs.Bytes.{eights}
 use Rattle.low.proofs.Parts.{patch_none}
 use Rattle.low.proofs.Eights.{eights_more}
@@ -18,7 +15,7 @@ loop-n-preserved c =
     let l = c.loop-n in
     let a = c.args in
     let more = eights_more a.b.now a.at a.xs l.n (omega arith) (omega arith) in
-    (omega arith, omega arith, c.put64.ensures ∙ rw l.invariant.2 more)
+    (omega arith, omega arith, c.put.ensures ∙ rw l.invariant.2 more)
 
 pub returns : goal.returns
 returns c =

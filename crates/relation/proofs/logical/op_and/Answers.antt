@@ -1,5 +1,5 @@
 -- `relation::logical::op_and` meets its contract. Assumes nothing.
-use Rattle.std.proofs.Common.{◌&&◌, ap, ◌∙◌, rules}
+use Rattle.std.proofs.Common.{◌&&◌, ap, ◌∙◌}
 use Rattle.relation.specs.Logical.{and_of}
 use Rattle.relation.proofs.Refused.{kept_alike}
 use Rattle.relation.proofs.logical.op_and.Goals as goal

@@ -1,5 +1,5 @@
 -- `relation::logical::op_or` meets its contract. Assumes nothing.
-use Rattle.std.proofs.Common.{◌||◌, ap, ◌∙◌, rules}
+use Rattle.std.proofs.Common.{◌||◌, ap, ◌∙◌}
 use Rattle.relation.specs.Logical.{or_of}
 use Rattle.relation.proofs.Refused.{kept_alike}
 use Rattle.relation.proofs.logical.op_or.Goals as goal

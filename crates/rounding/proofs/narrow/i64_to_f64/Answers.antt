@@ -1,5 +1,5 @@
 -- The library's own rounding of an integer to F64. Assumes nothing.
-use Rattle.std.proofs.Common.{ap, ◌∙◌, w64, rules}
+use Rattle.std.proofs.Common.{ap, ◌∙◌, w64}
 use lib.Ieee.{binary64}
 use mir.ValLaws.{to_z-of_z}
 use Rattle.rounding.specs.Kind.{double, of_integer}

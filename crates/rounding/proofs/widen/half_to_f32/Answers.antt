@@ -1,10 +1,10 @@
 -- The value of an F16, by its fields. Assumes nothing.
-use Rattle.std.proofs.Common.{◌≡◌, ℕ, ◌/◌, ◌%◌, ◌^◌, leb, sym, ap, ◌∙◌, arith, rules}
+use Rattle.std.proofs.Common.{◌≡◌, ℕ, ◌/◌, ◌%◌, ◌^◌, leb, sym, ap, ◌∙◌, arith}
 use lib.Ieee as Ieee
 use lib.Ieee.{binary32, inf, odd}
 use Rattle.rounding.specs.Kind.{half}
 use Rattle.rounding.specs.Bits.{of_bits}
-use Rattle.rounding.proofs.Nan.{zero_by_zero}
+use Rattle.rounding.proofs.Nan.{nan_pattern}
 use Rattle.rounding.proofs.Range.{inside, beyond}
 use Rattle.rounding.proofs.Fields.{read, fields_low, fields_inf, fields_nan}
 use Rattle.rounding.proofs.widen.half_to_f32.Goals as goal
@@ -24,12 +24,12 @@ returns-then-size-lt1024 c =
 pub returns-then-size-gt31744 : goal.returns-then-size-gt31744
 returns-then-size-gt31744 c =
     let h = c.args.h in
-    zero_by_zero binary32 ∙ sym (read half h ∙ fields_nan half (leb (2 ^ 15) h) (h % 2 ^ 15 / 2 ^ 10) (h % 2 ^ 10) (omega arith) (λ z. omega arith))
+    nan_pattern binary32 ∙ sym (read half h ∙ fields_nan half (leb (2 ^ 15) h) (h % 2 ^ 15 / 2 ^ 10) (h % 2 ^ 10) (omega arith) (λ z. omega arith))
 
 pub returns-then-neg : goal.returns-then-neg
-unfolding Ieee.div Ieee.neg Ieee.of_bits
+unfolding Ieee.of_bits
 returns-then-neg c = ap inf (sym c.if-neg.true-raw) ∙ sym (infinite c.args.h (omega (arith, beyond _ (c.args.h % 2 ^ 15) _ c.if-size.false (omega arith))))
 
 pub returns : goal.returns
-unfolding Ieee.div Ieee.of_bits
+unfolding Ieee.of_bits
 returns c = ap inf (sym c.if-neg.false-raw) ∙ sym (infinite c.args.h (omega (arith, beyond _ (c.args.h % 2 ^ 15) _ c.if-size.false (omega arith))))

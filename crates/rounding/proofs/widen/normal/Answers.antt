@@ -1,5 +1,5 @@
 -- The bits of an F32, made of those of an F16 with a leading digit. Assumes nothing.
-use Rattle.std.proofs.Common.{arith, rules}
+use Rattle.std.proofs.Common.{arith}
 use lib.Ieee.{binary32}
 use Rattle.rounding.proofs.Nan.{read_plain}
 use Rattle.rounding.proofs.Wider.{same_half}

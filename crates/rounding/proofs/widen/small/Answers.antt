@@ -1,5 +1,5 @@
 -- A whole number times a power of two, exact in F32. Assumes nothing.
-use Rattle.std.proofs.Common.{Bool, sym, refl, ap, ◌∙◌, rules}
+use Rattle.std.proofs.Common.{Bool, sym, refl, ap, ◌∙◌}
 use lib.Ieee.{neg, nan_bits, odd}
 use lib.Ieee as Ieee
 use Rattle.rounding.proofs.Exact.{widened, neg_odd}

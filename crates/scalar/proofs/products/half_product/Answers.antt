@@ -1,6 +1,5 @@
 -- `scalar::products::half_product` meets its contract. Assumes nothing.
 use Rattle.scalar.proofs.Added.{half_added}
-use borrow.Author.Rules.{rules}
 use Rattle.scalar.proofs.products.half_product.Goals as goal
 
 pub returns : goal.returns

@@ -1,6 +1,5 @@
 -- `scalar::products::half_times` meets its contract. Assumes nothing.
 use Rattle.scalar.proofs.Added.{half_times}
-use borrow.Author.Rules.{rules}
 use Rattle.scalar.proofs.products.half_times.Goals as goal
 
 pub returns : goal.returns

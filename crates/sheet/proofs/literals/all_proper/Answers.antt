@@ -1,34 +1,19 @@
--- The invariant: what is left to judge from here on decides for all components.
-use borrow.Author.Rules.{rules}
+-- The components are judged one by one, by their numbers.
+use mathlib.Core.Path.{refl, ap, ◌∙◌}
+use Prim.Native.Nat.{ℕ, ◌+◌, ◌*◌}
 use native.Mathlib.Omega.{arith}
-use mathlib.Core.Path.{◌≡◌, sym, ◌∙◌}
-use Prim.Native.Nat.{◌+◌, ◌*◌, ◌≤◌}
-use lib.ListN.{length}
-use borrow.Author.Tests.{not-true, not-false}
+use borrow.Author.Rules.{rules}
+use Rattle.std.proofs.lemmas.Iterator.{YieldsList-from_range}
+use Rattle.std.proofs.lemmas.Iterator.Search.{all_from_yields_List}
+use Rattle.low.specs.Bytes.{whole, part}
+use Rattle.value.specs.Pattern.{proper_of}
 use Rattle.sheet.specs.Node.{all_proper}
-use Rattle.sheet.proofs.Components.{first_bad_lem, first_good, none_proper}
+use Rattle.sheet.proofs.Components.{by_number}
 use Rattle.sheet.proofs.literals.all_proper.Goals as goal
 
-pub get64-w-requires : goal.get64-w-requires
-get64-w-requires c = omega arith
-
-pub returns-then-not-proper : goal.returns-then-not-proper
-returns-then-not-proper c =
-    sym (c.loop-more.invariant.0 ∙ first_bad_lem _ _ _ _ _ _ c.loop-more-test.true c.get64-w.ensures c.proper.ensures (not-true _ c.if-not-proper.true-raw))
-
-pub overflow_add-p : goal.overflow_add-p
-overflow_add-p c = omega arith
-
-pub overflow_sub-more : goal.overflow_sub-more
-overflow_sub-more c = omega arith
-
-pub loop-more-smaller : goal.loop-more-smaller
-loop-more-smaller c = omega arith
-
-pub loop-more-preserved : goal.loop-more-preserved
-loop-more-preserved c =
-    let one = first_good _ _ _ _ _ _ c.loop-more-test.true c.get64-w.ensures c.proper.ensures (not-false _ c.if-not-proper.false-raw) in
-    (c.loop-more.invariant.0 ∙ one, omega arith)
-
 pub returns : goal.returns
-returns c = sym (c.loop-more.invariant.0 ∙ none_proper _ _ _ _ c.loop-more-test.false)
+returns c =
+    let a = c.args in
+    all_from_yields_List (λ (i : ℕ). proper_of a.ty (whole (part a.b.now (a.at + 8 * i) 8))) _ _ _ c.all.ensures.ran (YieldsList-from_range 0 a.n a.n refl (omega arith))
+    (λ x r q k. search rules)
+    ∙ by_number a.ty a.b.now a.at 0 a.n ∙ ap (all_proper a.ty a.n a.b.now) (omega arith)

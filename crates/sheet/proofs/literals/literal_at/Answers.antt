@@ -1,7 +1,6 @@
 -- The value of a literal that was accepted.
 use native.Mathlib.Omega.{arith}
 use Rattle.sheet.proofs.Inverse.{loads_head, loads_fits, is_loaded}
-use borrow.Author.Rules.{rules}
 use Rattle.sheet.proofs.literals.literal_at.Goals as goal
 
 pub literal_head-h-requires : goal.literal_head-h-requires

@@ -1,6 +1,5 @@
 -- A literal's type and shape.
 use Rattle.sheet.proofs.Components.{ok_by_tests}
-use borrow.Author.Rules.{rules}
 use Rattle.sheet.proofs.literals.literal_ok.Goals as goal
 
 pub returns : goal.returns

@@ -2,7 +2,6 @@
 use native.Mathlib.Omega.{arith}
 use borrow.Author.Tests.{not-true, not-false}
 use Rattle.sheet.proofs.Nodes.{literal_cut, literal_shape, literal_short, literal_bad, literal_good}
-use borrow.Author.Rules.{rules}
 use Rattle.sheet.proofs.literals.read_literal.Goals as goal
 
 pub returns-then-remaining-lt4 : goal.returns-then-remaining-lt4

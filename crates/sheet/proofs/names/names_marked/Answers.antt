@@ -1,6 +1,5 @@
 -- A setting names nothing; an expression what the pass over its nodes finds.
 use Rattle.sheet.proofs.Accepted.{expression_filled, setting_names, expression_names}
-use borrow.Author.Rules.{rules}
 use Rattle.sheet.proofs.names.names_marked.Goals as goal
 
 pub scan-requires : goal.scan-requires

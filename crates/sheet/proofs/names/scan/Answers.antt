@@ -1,9 +1,6 @@
 -- The invariant: the trees that stand from here to the end name a marked entry exactly if the body does, whichever expression fills it.
 use native.Mathlib.Omega.{arith}
-use Prim.Native.Nat.{◌-◌}
-use lib.ListN.{length}
-use Rattle.types.specs.Edition.{plain}
-use Rattle.sheet.proofs.Passes.{PassingAll, all_start, all_end, all_there, all_whole, all_small, all_hit, all_on, all_later}
+use Rattle.sheet.proofs.Passes.{all_start, all_end, all_there, all_whole, all_small, all_hit, all_on, all_later}
 use Rattle.sheet.proofs.names.scan.Goals as goal
 
 pub loop-at-init : goal.loop-at-init

@@ -1,14 +1,13 @@
 -- The node reader and the operand reader: they call one another, and the bytes left fall at each call.
-use Prim.Native.Nat.{ℕ, ◌<◌, ◌+◌, ◌-◌}
 use native.Mathlib.Omega.{arith}
-use mathlib.Core.Path.{sym, ap, ◌∙◌}
-use lib.ListN.{length}
+use mathlib.Core.Path.{◌≡◌, sym, ap, ◌∙◌}
+use Rattle.std.specs.Prelude.{Err}
 use borrow.Author.Rules.{rules}
 use borrow.Author.Tests.{not-true, not-false}
 use Rattle.low.specs.Read.{seen_of}
 use Rattle.sheet.specs.Node.{read_node}
 use Rattle.sheet.proofs.Nodes.{node_cut, seen_literal, seen_reference, seen_unary, seen_binary, seen_unknown, read_past}
-use Rattle.sheet.proofs.Nodes.{operator_cut, operator_bad, operator_one, operator_two, operator_two_not}
+use Rattle.sheet.proofs.Nodes.{operator_cut, operator_bad, operator_not, operator_one, operator_two}
 use Rattle.sheet.proofs.node.+read_node_read_operands.Goals as goal
 
 pub read_node-returns-then-levels-eq0 : goal.read_node-returns-then-levels-eq0
@@ -47,24 +46,23 @@ read_operands-returns-then-remaining-lt2 t c = operator_cut _ _ _ _ (omega arith
 pub read_operands-returns-then-not-known_operator : goal.read_operands-returns-then-not-known_operator
 read_operands-returns-then-not-known_operator t c = operator_bad _ _ _ _ (omega arith) _ c.known_operator.ensures (not-true _ c.if-not-known_operator.true-raw)
 
-pub read_operands-read_node-first-requires : goal.read_operands-read_node-first-requires
-read_operands-read_node-first-requires t c = (omega arith, tt)
-
-pub read_operands-returns-in_default : goal.read_operands-returns-in_default
-read_operands-returns-in_default t c =
-    operator_two_not _ _ _ _ (omega arith) _ c.known_operator.ensures (not-false _ c.if-not-known_operator.false-raw) c.if-two.true _
-    c.read_node-first.ensures _ _ c.in_default.is
-
 pub read_operands-read_node-requires : goal.read_operands-read_node-requires
-read_operands-read_node-requires t c =
-    (omega (arith, read_past _ _ _ _ _ _ _ (omega arith) (sym c.in-Good.is ∙ c.read_node-first.ensures)), tt)
+read_operands-read_node-requires t c = (omega arith, tt)
+
+pub read_operands-returns-in_err-next : goal.read_operands-returns-in_err-next
+read_operands-returns-in_err-next t c =
+    let e : c.from_residual.result ≡ Err c.in_err-next.field-0.0 = search rules in
+    e ∙ operator_not _ _ _ _ (omega arith) _ c.known_operator.ensures (not-false _ c.if-not-known_operator.false-raw) _ c.read_node.ensures _ c.in_err-next.was
+
+pub read_operands-read_node-requires-then-two : goal.read_operands-read_node-requires-then-two
+read_operands-read_node-requires-then-two t c =
+    (omega (arith, read_past _ _ _ _ _ _ _ (omega arith) (sym c.in_ok-next.was ∙ c.read_node.ensures)), tt)
 
 pub read_operands-returns-then-two : goal.read_operands-returns-then-two
 read_operands-returns-then-two t c =
-    c.read_node.ensures
-    ∙ operator_two _ _ _ _ (omega arith) _ c.known_operator.ensures (not-false _ c.if-not-known_operator.false-raw) c.if-two.true _
-    c.read_node-first.ensures _ c.in-Good.is
+    c.read_node-then-two.ensures
+    ∙ operator_two _ _ _ _ (omega arith) _ c.known_operator.ensures (not-false _ c.if-not-known_operator.false-raw) _ c.read_node.ensures _ c.in_ok-next.was c.if-two.true
 
 pub read_operands-returns : goal.read_operands-returns
 read_operands-returns t c =
-    c.read_node-first.ensures ∙ operator_one _ _ _ _ (omega arith) _ c.known_operator.ensures (not-false _ c.if-not-known_operator.false-raw) c.if-two.false
+    operator_one _ _ _ _ (omega arith) _ c.known_operator.ensures (not-false _ c.if-not-known_operator.false-raw) _ c.read_node.ensures _ c.in_ok-next.was c.if-two.false

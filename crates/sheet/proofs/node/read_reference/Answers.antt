@@ -4,7 +4,6 @@ use mathlib.Core.Path.{sym, ap}
 use Prim.Native.Nat.{◌+◌}
 use Rattle.low.specs.Read.{seen_of}
 use Rattle.sheet.proofs.Nodes.{reference_cut, reference_late, reference_above, reference_good}
-use borrow.Author.Rules.{rules}
 use Rattle.sheet.proofs.node.read_reference.Goals as goal
 
 pub returns-then-remaining-lt2 : goal.returns-then-remaining-lt2

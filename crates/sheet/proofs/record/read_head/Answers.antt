@@ -3,7 +3,6 @@ use native.Mathlib.Omega.{arith}
 use mathlib.Core.Path.{sym, ◌∙◌}
 use borrow.Author.Tests.{not-true, not-false}
 use Rattle.sheet.proofs.Records.{head_cut, head_mark, head_stage, head_short, head_record}
-use borrow.Author.Rules.{rules}
 use Rattle.sheet.proofs.record.read_head.Goals as goal
 
 pub returns-then-remaining-lt5 : goal.returns-then-remaining-lt5

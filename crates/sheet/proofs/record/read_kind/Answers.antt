@@ -1,7 +1,6 @@
 -- What stands in a body, by the entry's kind.
 use mathlib.Core.Path.{sym, ◌∙◌}
 use Rattle.sheet.proofs.Records.{of_setting, of_node, of_kind_lem}
-use borrow.Author.Rules.{rules}
 use Rattle.sheet.proofs.record.read_kind.Goals as goal
 
 pub returns-in-Setting : goal.returns-in-Setting

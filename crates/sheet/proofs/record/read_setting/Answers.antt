@@ -2,7 +2,6 @@
 use native.Mathlib.Omega.{arith}
 use mathlib.Core.Path.{sym, ◌∙◌}
 use Rattle.sheet.proofs.Records.{setting_cut, setting_tag, setting_literal}
-use borrow.Author.Rules.{rules}
 use Rattle.sheet.proofs.record.read_setting.Goals as goal
 
 pub returns-then-b-eq0 : goal.returns-then-b-eq0

@@ -2,7 +2,6 @@
 use mathlib.Core.Path.{sym, ap, ◌∙◌}
 use Rattle.sheet.specs.declared.Kind.{Kind}
 use Rattle.sheet.specs.Stage.{counts_as}
-use borrow.Author.Rules.{rules}
 use Rattle.sheet.proofs.stage.counts_as.Goals as goal
 
 pub returns-in-Setting : goal.returns-in-Setting

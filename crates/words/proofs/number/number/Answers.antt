@@ -1,49 +1,47 @@
--- `words::number::number` meets its contract, and its loop ends.
-use mathlib.Core.Path.{◌≡◌, ◌∙◌}
-use Prim.Native.Nat.{◌^◌, ◌-◌, ◌≤◌, ◌<◌}
-use lib.ListN.{length, drop}
-use Rattle.words.specs.Spelling.{spelled}
-use Rattle.words.proofs.Spellings.{further, empty, begun, no_digit, one_digit, too_long, ended, passes, stays}
+-- A byte that is no digit and a number of more than 64 bits spell nothing.
+use mathlib.Core.Path.{◌≡◌, ◌∙◌, ap}
+use Prim.Native.Nat.{ℕ, ◌+◌, ◌*◌}
 use native.Mathlib.Omega.{arith}
+use borrow.Author.Rules.{rules}
+use Rattle.words.proofs.Spellings.{empty, begun, no_digit, one_digit, too_long, ended}
 use Rattle.words.proofs.number.number.Goals as goal
 
-pub returns-then-s-eq0 : goal.returns-then-s-eq0
-returns-then-s-eq0 c = empty c.args.base c.args.s.now c.if-s-eq0.true
+pub returns-then-is_empty : goal.returns-then-is_empty
+returns-then-is_empty c = empty c.args.base c.args.s.now (search rules)
 
-pub loop-i-init : goal.loop-i-init
-loop-i-init c = (omega arith, omega arith, begun c.args.base c.args.s.now c.if-s-eq0.false)
+pub loop-c-init : goal.loop-c-init
+loop-c-init c = (omega arith, begun c.args.base c.args.s.now (search rules))
 
-pub returns-then-base-d : goal.returns-then-base-d
-returns-then-base-d c =
-    let s = c.args in
-    let l = c.loop-i in
-    let d = c.digit-d in
-    no_digit s.base l.n s.s.now l.i d.result (omega arith) d.ensures.0 c.if-base-d.true ∙ l.invariant.2
+pub returns-in_err-d : goal.returns-in_err-d
+returns-in_err-d c =
+    let l = c.loop-c in
+    c.from_residual.ensures ∙ no_digit c.args.base l.n c.args.s.now l.c-index c.from.result (omega arith) (omega arith) c.from.ensures c.in_err-d.ensures.value ∙ l.invariant.1
 
-pub returns-then-d-base : goal.returns-then-d-base
-returns-then-d-base c =
-    let l = c.loop-i in
-    let d = c.digit-d in
-    let big = passes c.args.base l.n d.result 18446744073709551615 c.requires.0 (omega arith) c.if-d-base.true in
-    too_long c.args.base l.n c.args.s.now l.i d.result (omega arith) d.ensures.0 c.requires.0 c.if-base-d.false big ∙ l.invariant.2
+pub returns-in_err-checked_mul : goal.returns-in_err-checked_mul
+returns-in_err-checked_mul c =
+    let l = c.loop-c in
+    let m : l.n * c.from-in-loop-c.result ≡ l.n * c.args.base = ap (λ (b : ℕ). l.n * b) c.from-in-loop-c.ensures in
+    c.from_residual-in_err-checked_mul.ensures
+    ∙ too_long c.args.base l.n c.args.s.now l.c-index c.from.result (omega arith) (omega arith) c.from.ensures c.in_ok-d.d c.in_ok-d.ensures.value (omega arith) (omega (arith, c.in_err-checked_mul.ensures, m))
+    ∙ l.invariant.1
 
-pub overflow_mul-n : goal.overflow_mul-n
-overflow_mul-n c =
-    omega (arith, stays c.args.base c.loop-i.n c.digit-d.result 18446744073709551615 c.requires.0 (omega arith) c.if-d-base.false)
+pub returns-in_err-n : goal.returns-in_err-n
+returns-in_err-n c =
+    let l = c.loop-c in
+    let m : l.n * c.from-in-loop-c.result ≡ l.n * c.args.base = ap (λ (b : ℕ). l.n * b) c.from-in-loop-c.ensures in
+    c.from_residual-in_err-n.ensures
+    ∙ too_long c.args.base l.n c.args.s.now l.c-index c.from.result (omega arith) (omega arith) c.from.ensures c.in_ok-d.d c.in_ok-d.ensures.value (omega arith) (omega (arith, c.in_ok-checked_mul.ensures, c.in_err-n.ensures, m, c.from-in-loop-c-2.ensures))
+    ∙ l.invariant.1
 
-pub overflow_add-n : goal.overflow_add-n
-overflow_add-n c =
-    omega (arith, stays c.args.base c.loop-i.n c.digit-d.result 18446744073709551615 c.requires.0 (omega arith) c.if-d-base.false)
-
-pub loop-i-preserved : goal.loop-i-preserved
-loop-i-preserved c =
-    let l = c.loop-i in
-    let d = c.digit-d in
-    let fits = stays c.args.base l.n d.result 18446744073709551615 c.requires.0 (omega arith) c.if-d-base.false in
-    (omega arith, omega (arith, fits), one_digit c.args.base l.n c.args.s.now l.i d.result (omega arith) d.ensures.0 c.if-base-d.false ∙ l.invariant.2)
+pub loop-c-preserved : goal.loop-c-preserved
+loop-c-preserved c =
+    let l = c.loop-c in
+    let m : l.n * c.from-in-loop-c.result ≡ l.n * c.args.base = ap (λ (b : ℕ). l.n * b) c.from-in-loop-c.ensures in
+    let n : c.in_ok-n.n ≡ l.n * c.args.base + c.in_ok-d.d = omega (arith, c.in_ok-checked_mul.ensures, c.in_ok-n.ensures, m, c.from-in-loop-c-2.ensures) in
+    let same = one_digit c.args.base l.n c.args.s.now l.c-index c.from.result (omega arith) (omega arith) c.from.ensures c.in_ok-d.d c.in_ok-d.ensures.value in
+    (omega (arith, c.in_ok-n.ensures), rw n (same ∙ l.invariant.1))
 
 pub returns : goal.returns
 returns c =
-    let s = c.args in
-    let l = c.loop-i in
-    ended s.base l.n s.s.now l.i (omega arith) l.invariant.1 ∙ l.invariant.2
+    let l = c.loop-c in
+    ended c.args.base l.n c.args.s.now l.c-index (omega arith) l.invariant.0 ∙ l.invariant.1

@@ -1,23 +1,17 @@
--- What is left of the part falls by one with each of its bytes; the measure is what is left of the slice.
-use mathlib.Core.Path.{◌≡◌}
-use lib.ListN.{length, drop}
+-- The first byte that ends a part, or the end of what is left.
+use Rattle.std.proofs.Common.{◌≡◌, ◌∙◌, ap, ℕ, List, Bor, eqb, drop, position, length, rules, tests}
+use Rattle.std.proofs.lemmas.Iterator.{YieldsList-from_slice}
+use Rattle.std.proofs.lemmas.Iterator.Search.{position_from_yields_List}
 use Rattle.words.specs.Split.{before}
-use Rattle.words.proofs.Splits.{part_ends, part_more, part_none}
-use native.Mathlib.Omega.{arith}
-use Prim.Native.Nat.{◌+◌, ◌-◌}
+use Rattle.words.proofs.Splits.{before_found, rest_gotten}
 use Rattle.words.proofs.split.end_of.Goals as goal
-
-pub returns-then-s-i : goal.returns-then-s-i
-returns-then-s-i c =
-    let s = c.args in
-    omega (arith, part_ends s.end s.s.now c.loop-i.i (omega arith) c.if-s-i.true)
-
-pub loop-i-preserved : goal.loop-i-preserved
-loop-i-preserved c =
-    let s = c.args in
-    omega (arith, part_more s.end s.s.now c.loop-i.i (omega arith) c.if-s-i.false)
 
 pub returns : goal.returns
 returns c =
-    let s = c.args in
-    omega (arith, part_none s.end s.s.now c.loop-i.i (omega arith))
+    let rest : c.unwrap_or-rest.result.now ≡ drop c.args.from c.args.s.now =
+    ap (λ (r : Bor (List ℕ)). r.now) c.unwrap_or-rest.ensures ∙ rest_gotten _ _ _ _ c.get.ensures.lookup (search rules) in
+    let found : c.position.result ≡ position (λ b. eqb b c.args.end) c.unwrap_or-rest.result.now =
+    position_from_yields_List (λ b. eqb b c.args.end) _ _ c.position.result c.position.ensures.ran (YieldsList-from_slice c.unwrap_or-rest.result.now cc) (λ x b q k. search (rules, tests)) in
+    let e = before_found c.args.end c.unwrap_or-rest.result.now in
+    let n : c.unwrap_or.result ≡ length (before c.args.end (drop c.args.from c.args.s.now)) = rw (← rest) (c.unwrap_or.ensures ∙ rw found e) in
+    rw n

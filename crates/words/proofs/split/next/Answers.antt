@@ -1,6 +1,5 @@
 -- The next word starts after the byte 0 that ends this one; the last one may have none.
 use Rattle.words.proofs.Splits.{next_there, next_none}
-use borrow.Author.Rules.{rules}
 use Rattle.words.proofs.split.next.Goals as goal
 
 pub returns-then-e-s : goal.returns-then-e-s

@@ -1,9 +1,0 @@
--- `arithmetic::op_div` meets its contract. Assumes nothing.
-use mathlib.Core.Path.{ap, ◌∙◌}
-use Rattle.value.specs.declared.Pair.{Pair}
-use Rattle.arithmetic.specs.Arithmetic.{div_of}
-use borrow.Author.Rules.{rules}
-use Rattle.arithmetic.proofs.op_div.Goals as goal
-
-pub returns : goal.returns
-returns c = c.arithmetic_pair.ensures ∙ ap (λ (p : Pair). div_of c.args.stage p) c.common.ensures

@@ -1,9 +1,0 @@
--- `bitwise::shifts::op_shr` meets its contract. Assumes nothing.
-use mathlib.Core.Path.{◌∙◌, ap}
-use Rattle.value.specs.declared.Found.{Found}
-use Rattle.bitwise.specs.Shift.{shr_of}
-use borrow.Author.Rules.{rules}
-use Rattle.bitwise.proofs.shifts.op_shr.Goals as goal
-
-pub returns : goal.returns
-returns c = c.shift.ensures ∙ ap (λ (f : Found). shr_of c.args.stage c.args.l f) c.convert.ensures

@@ -1,8 +1,0 @@
--- Fresh evaluation, its answer packed. Assumes nothing.
-use mathlib.Core.Path.{ap, ◌∙◌}
-use Rattle.booth.specs.Answer.{packed_fold}
-use borrow.Author.Rules.{rules}
-use Rattle.booth.proofs.sheet_fresh.Goals as goal
-
-pub returns : goal.returns
-returns c = let e = c.evaluate-filled.ensures in (c.pack_fold.ensures ∙ ap packed_fold e.0, e.1)

@@ -1,8 +1,0 @@
--- `conversion::convert::float_to_f32` meets its contract. Assumes nothing.
-use Rattle.value.specs.declared.Scalar.TheVariants.{F32}
-use Rattle.conversion.proofs.Pairing.{rounded}
-use borrow.Author.Rules.{rules}
-use Rattle.conversion.proofs.convert.float_to_f32.Goals as goal
-
-pub returns : goal.returns
-returns c = rounded F32 c.when_finite.ensures c.f64_to_f32.ensures

@@ -1,9 +1,0 @@
--- `integer::wrapping::sub_i32` meets its contract. Assumes nothing.
-use Rattle.std.proofs.Common.{w32, rules}
-use Rattle.integer.proofs.Wrap.{wrapped_is, respects_sub}
-use Rattle.integer.proofs.wrapping.sub_i32.Goals as goal
-
-pub returns : goal.returns
-returns c =
-    wrapped_is w32 _ (respects_sub w32) c.ranges.x c.ranges.y c.bits_i32.ensures
-    c.bits_i32-2.ensures c.sub_u32.ensures c.i32_of_bits.ensures

@@ -1,0 +1,7 @@
+-- The quotient at the kind of the format. Assumes nothing.
+use lib.Ieee.{binary32}
+use Rattle.rounding.proofs.Same.{div_is}
+use Rattle.rounding.proofs.floats.F32Float.over.Goals as goal
+
+pub returns : goal.returns
+returns c = div_is binary32 _ _

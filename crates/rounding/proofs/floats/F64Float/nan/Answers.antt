@@ -1,0 +1,7 @@
+-- The NaN by its pattern. Assumes nothing.
+use lib.Ieee.{binary64}
+use Rattle.rounding.proofs.Nan.{nan_pattern}
+use Rattle.rounding.proofs.floats.F64Float.nan.Goals as goal
+
+pub returns : goal.returns
+returns c = nan_pattern binary64
