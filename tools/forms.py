@@ -4,7 +4,7 @@
 usage: tools/forms.py [FOLDER] [--counts]
 
 FOLDER is the top of the repository. For each question it prints how many places there are, and then each place with its file. It reads text, not
-types: docs/DESIGN-PASS.md says of each place that it finds what became of it.
+types: docs/DESIGN-PASS.md says what became of the places that it found.
 
 1a  own enums, with their variants
 1b  structs with a truth, a status or a number of a refusal beside other fields
@@ -100,6 +100,8 @@ def shape(body):
 
 
 def main():
+    if "--help" in sys.argv:
+        sys.exit(__doc__)
     words = [w for w in sys.argv[1:] if not w.startswith("--")]
     top = words[0] if words else "."
     found = collections.defaultdict(list)

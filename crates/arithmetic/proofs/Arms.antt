@@ -79,12 +79,21 @@ either_arm or t u v {a} {o} {d} e h m = m ∙ ap₂ or e h ∙ spread t
     spread true = refl
     spread false = refl
 
--- a quotient or a remainder, or else the other answer
-pub quotient_arm : (w : Width) (make : ℤ → Scalar) (z : ℤ → ℤ → ℤ) (d : ℤ → Result) {a o : Result} (q : Option ℤ) (m : Option Scalar) {x y : ℤ} → SFits w x → SFits w y
+-- the same of a quotient or a remainder
+pub quotient_arm : {Q : Type 0} (w : Width) (or : Q → Result → Result) (none : Q) (some : ℤ → Q) (z : ℤ → ℤ → ℤ) (d : ℤ → Result)
+    {a o : Result} {q : Q} {x y : ℤ} → SFits w x → SFits w y
+    → q ≡ pick (no_quotient w (to_z w (of_z w x)) (to_z w (of_z w y))) none (some (z (to_z w (of_z w x)) (to_z w (of_z w y))))
+    → o ≡ d (to_z w (of_z w x)) → a ≡ or q o
+    → a ≡ pick (no_quotient w x y) (or none (d x)) (or (some (z x y)) (d x))
+quotient_arm w or none some z d {a} {o} {q} {x} {y} f g e h m =
+    either_arm or (no_quotient w x y) none (some (z x y)) (e ∙ parts w (λ x y. pick (no_quotient w x y) none (some (z x y))) f g) (h ∙ ap d (to_z-of_z w x f)) m
+
+-- a quotient or a remainder as a scalar that may be none, or else the other answer
+pub found_arm : (w : Width) (make : ℤ → Scalar) (z : ℤ → ℤ → ℤ) (d : ℤ → Result) {a o : Result} (q : Option ℤ) (m : Option Scalar) {x y : ℤ} → SFits w x → SFits w y
     → q ≡ pick (no_quotient w (to_z w (of_z w x)) (to_z w (of_z w y))) None (Some (z (to_z w (of_z w x)) (to_z w (of_z w y))))
     → MatchOption q (m ≡ None) (λ z. IsSomeAnd m (λ s. s ≡ make z)) → o ≡ d (to_z w (of_z w x)) → a ≡ value_or m o
     → a ≡ pick (no_quotient w x y) (d x) (value (make (z x y)))
-quotient_arm w make z d q m {x} {y} f g e h k l =
+found_arm w make z d q m {x} {y} f g e h k l =
     l ∙ ap₂ value_or (mapped make q m h ∙ ap (option_map make) (e ∙ parts w (λ x y. pick (no_quotient w x y) None (Some (z x y))) f g)) (k ∙ ap d (to_z-of_z w x f))
     ∙ spread (no_quotient w x y)
   where

@@ -47,7 +47,7 @@ fn value_or(found: Option<Scalar>, other: Answer) -> Answer
     found.map_or(other, Ok)
 }
 
-// `+ - * / %` of two AbstractInts.
+// `+ - * / %` of two AbstractInts. Here and in the two below each integer type has its own rule of what refuses, wraps or divides.
 fn whole_arithmetic(op: u8, stage: ShaderStage, x: i64, y: i64) -> Answer
     ensures { answer_of result ≡ arithmetic_by op stage (Some (Pair.AbstractInt x y)) }
 {

@@ -54,7 +54,7 @@ pub(crate) fn one_in(b: &[u8]) -> Option<(u8, u64)>
     Some((b[0], low::number(low::part(b, 3, 8))))
 }
 
-// Whether the call itself is refused: its operator, its stage or an operand.
+// Whether the call itself is refused: its operator, its stage or an operand. A status is 01's number, as it stands in a slot and leaves to C.
 fn call_refused(status: u8) -> bool
     ensures { result ≡ call_refused status }
 {

@@ -29,7 +29,7 @@ fn laid_out(operand: &[u8]) -> [u8; 131]
     out
 }
 
-// How many of those bytes are the operand's: it has as many components as its shape, or all sixteen.
+// How many of those bytes are the operand's: it has as many components as its shape, of any two bytes, or all sixteen.
 fn used(operand: &[u8]) -> usize
     ensures { (result ≤ 131) × (result ≡ used_in operand.now) }
 {

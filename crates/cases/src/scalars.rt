@@ -14,10 +14,7 @@ use value::{Answer, Scalar, ShaderStage, said, type_of};
 fn packed(a: Answer) -> u64
     ensures { result ≡ packed_result (answer_of a) }
 {
-    match a {
-        Ok(_) => 0,
-        Err(e) => (e.number() as u64) * 0x1_0000_0000 + e.detail() as u64,
-    }
+    (said::number(a) as u64) * 0x1_0000_0000 + said::detail(a) as u64
 }
 
 // The unary operator of a code; every other code is taken as 3.

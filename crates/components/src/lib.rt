@@ -8,7 +8,7 @@ ghost use Rattle.components.specs.Components.{each_component, lane, binary_at, u
 use scalar::refusal;
 use value::{Refusal, refusals};
 
-// The number at place a + i * s.
+// The number at place a + i * s. Place and stride stand beside the sixteen: a struct of the three would be made anew for each component.
 pub fn entry(xs: &[u64; 16], a: usize, i: usize, s: usize) -> u64
     requires { a + i * s < 16 }
     ensures { result ≡ lane xs.now a s i }

@@ -16,7 +16,7 @@ use pairing::{fits, is_product, misfit, pair_ok, result_shape, targets_of};
 use products::{cells, vec_mat};
 use value::{Refusal, refusals};
 
-// An operand as it is worked on: its shape, and its components, which are lent.
+// An operand as it is worked on: its shape, which `shape` has judged, and its components, which are lent.
 #[derive(Clone, Copy)]
 struct Lent<'a>(Shape, &'a [u64; 16]);
 

@@ -60,7 +60,7 @@ fn content(ty: u8, bits: u64) -> Instance
     operand::scalar(ty, value::kept(ty, bits))
 }
 
-// Puts new content into the slot of setting i.
+// Puts new content into the slot of setting i. Type and bits come apart, as the public calls take them.
 fn put_content(results: &mut [u8], i: usize, ty: u8, bits: u64)
     ensures { results.new ≡ put results.old i (content_bytes ty bits) }
 {

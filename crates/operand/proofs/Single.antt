@@ -1,6 +1,8 @@
 -- Each public call: any two outcomes that its contract permits coincide. Assumes nothing.
 use mathlib.Core.Path.{sym, ◌∙◌}
 use Rattle.integer.proofs.Single.{OneResult}
+use Rattle.operand.proofs.Instance.shape.Kinds as shape_kinds
+use Rattle.operand.proofs.Instance.shape.Reads as shape_reads
 use Rattle.operand.proofs.refused.Kinds as refused_kinds
 use Rattle.operand.proofs.refused.Reads as refused_reads
 use Rattle.operand.proofs.scalar.Kinds as scalar_kinds
@@ -21,6 +23,9 @@ use Rattle.operand.proofs.count.Kinds as count_kinds
 use Rattle.operand.proofs.count.Reads as count_reads
 use Rattle.operand.proofs.formed.Kinds as formed_kinds
 use Rattle.operand.proofs.formed.Reads as formed_reads
+
+pub shape_one : OneResult 1 shape_kinds.ps shape_kinds.r shape_reads.Post
+shape_one κs a x y s t p q = p ∙ sym q
 
 pub refused_one : OneResult 0 refused_kinds.ps refused_kinds.r refused_reads.Post
 refused_one κs a x y s t p q = p ∙ sym q

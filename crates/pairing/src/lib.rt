@@ -28,7 +28,7 @@ pub fn stage_known(stage: u8) -> bool
     stage <= 2
 }
 
-// The code of a stage.
+// The code of a stage. The enum is another crate's, so this is no `From`.
 pub fn stage_code(stage: ShaderStage) -> u8
     ensures { result ≡ stage_code stage }
 {
@@ -122,7 +122,7 @@ pub fn fits(op: u8, a: Shape, b: Shape) -> bool
     same_shape(a, b)
 }
 
-// The number of the refusal where they do not.
+// The number of the refusal where they do not: 01's, as `low::Refused` has it.
 pub fn misfit(op: u8, a: Shape, b: Shape) -> u8
     ensures { result ≡ misfit_of op a b }
 {

@@ -22,9 +22,17 @@ fn dot(
     requires { Inside a s n × Inside b 1 n × (1 ≤ n) }
     ensures { result ≡ dot_of stage ty (lane l.now a s) (lane r.now b 1) (n - 1) }
 {
-    let (_, mut sum) = scalar::product(stage, ty, entry(l, a, 0, s), entry(r, b, 0, 1))?;
+    // 01 names this form: a let that returns early on refusal.
+    let first = scalar::product(stage, ty, entry(l, a, 0, s), entry(r, b, 0, 1));
+    let Ok((_, mut sum)) = first else {
+        return first.map(|(_, bits)| bits);
+    };
     for k in 1..n {
-        (_, sum) = scalar::add_product(stage, ty, sum, entry(l, a, k, s), entry(r, b, k, 1))?;
+        let next = scalar::add_product(stage, ty, sum, entry(l, a, k, s), entry(r, b, k, 1));
+        let Ok((_, bits)) = next else {
+            return next.map(|(_, bits)| bits);
+        };
+        sum = bits;
     }
     Ok(sum)
 }
@@ -44,7 +52,11 @@ pub fn cells(
 {
     let mut out = [0u64; 16];
     for i in 0..n {
-        out[i] = dot(stage, ty, l, i % rows, rows, r, i / rows * inner, inner)?;
+        let cell = dot(stage, ty, l, i % rows, rows, r, i / rows * inner, inner);
+        let Ok(bits) = cell else {
+            return cell.map(|_| out);
+        };
+        out[i] = bits;
     }
     Ok(out)
 }

@@ -7,7 +7,7 @@ ghost use Rattle.value.specs.Pair.{pair_of};
 use conversion::common::pair;
 use value::{Answer, OperatorError, Pair, Scalar};
 
-// `||` on two operands of one type.
+// `||` on two operands of one type. It and the next stay two: one over a closure would need more clauses than they have lines.
 pub fn or_pair(p: Option<Pair>) -> Answer
     ensures { answer_of result ≡ or_of p }
 {

@@ -8,7 +8,7 @@ ghost use Rattle.remainder.specs.Units.{digits_of, places_of, units_of};
 
 use rounding::Float;
 
-// The digits of a magnitude's pattern, where h is the weight of the exponent's field.
+// The digits of a magnitude's pattern, where h is the weight of the exponent's field: a number alone, of which one line says all that is asked.
 fn digits(a: u64, h: u64) -> u64
     requires { (0 < h) × (h ≤ 2 ^ 52) }
     ensures { result ≡ digits_of h a }
@@ -54,6 +54,7 @@ fn packed(c: u64, e: u64, h: u64) -> u64
 {
     let mut m = c;
     let mut p = e;
+    // The end depends on m, so no `for` counts it.
     while (0 < p) & (m < h) {
         m += m;
         p -= 1;

@@ -2,7 +2,7 @@
 use cases::answers;
 
 // Where the next change stands in a record, and where the bytes stand that the buffer must hold.
-#[derive(Clone, Copy)]
+#[derive(Clone, Copy, Debug, PartialEq, Eq)]
 struct Place {
     at: usize,
     bytes: usize,

@@ -10,7 +10,7 @@ use std::rt::{Env, Files};
 use std::{fs, io};
 
 // What the records of a list ask.
-#[derive(Clone, Copy)]
+#[derive(Clone, Copy, Debug, PartialEq, Eq)]
 enum Kind {
     Rounding,
     Scalars,
@@ -21,7 +21,7 @@ enum Kind {
 }
 
 // The cases so far, and those of them that were right.
-#[derive(Clone, Copy, Default)]
+#[derive(Clone, Copy, Debug, Default, PartialEq, Eq)]
 struct Tally {
     cases: u64,
     right: u64,
@@ -91,6 +91,7 @@ fn turn<F: Read>(file: &mut F, kind: Kind, buf: &mut [u8]) -> io::Result<Option<
 fn run<P: Print, F: Read>(rt: &P, file: &mut F, kind: Kind) -> io::Result<Tally> {
     let mut buf = [0u8; 65536];
     let mut t = Tally::default();
+    // The turns are counted so that the loop is known to end; no list is so long.
     for _ in 0..u64::MAX {
         let Some(right) = turn(file, kind, &mut buf)? else {
             return Ok(t);

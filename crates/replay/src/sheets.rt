@@ -1,10 +1,11 @@
 // Sheets: their check, and fresh evaluation.
 use cases::answers;
+use value::refusals;
 
-// Whether the check of a sheet answers what a record says. It knows nothing of the size of results (30), which is judged after it.
+// Whether the check of a sheet answers what a record says. It knows nothing of the size of results, which is judged after it.
 fn checks(sheet: &[u8], said: &[u8]) -> bool {
     let answer = booth::sheet_check(sheet);
-    if low::byte(said, 0) == 30 {
+    if low::byte(said, 0) == refusals::RESULTS_SIZE {
         return answer < 0x1_0000_0000;
     }
     answers(answer, said)

@@ -39,7 +39,8 @@ fn narrow_bits(b: u64, from: Kind, to: Kind) -> u64
     sign + places::round_whole(lead + size % lead, places)
 }
 
-// The bits of x rounded once to F16, a NaN as it is kept: told apart first, by a test that no number waits for.
+// The bits of x rounded once to F16, a NaN as it is kept: told apart first, by a test that no number waits for. Here and below the two kinds
+// are what differs, and `narrow_bits` is the one text.
 pub fn f64_to_half(x: f64) -> u16
     ensures { result ≡ to_bits half (convert half x) }
 {

@@ -84,6 +84,14 @@ on_bits (Err r) k = Err r
 unfoldable pub product_added : ℕ → ℕ → ℕ → ℕ → ℕ → Step
 product_added stage ty s l r = on_bits (step_of 5 stage ty l r) (step_of 3 stage ty s)
 
+-- a pattern of one type as one of another, if it has one
+abbrev pub converted : Option Scalar → Option ℕ
+converted f = option_map bits_of f
+
+unfoldable pub conv_of : ℕ → ℕ → ℕ → Option ℕ
+conv_of from to b = option_and_then (λ s. converted (convert_to to s)) (scalar_of from b)
+
+-- ---- cited by private contracts alone
 -- a result's bits; or, where finite results are asked for (s), the refusal n of one that is not finite (f)
 abbrev pub checked_of : Bool → Bool → ℕ → ℕ → ℕ → Step
 checked_of s f n ty b = pick (s && not f) (Err (refusal n 0)) (Ok (ty, b))
@@ -101,10 +109,3 @@ sum_at k s ty sum l r =
     let p = mul k (of_bits k l) (of_bits k r) in
     let t = add k (of_bits k sum) p in
     outcome_of s (finite p) (finite t) ty (to_bits k t)
-
--- a pattern of one type as one of another, if it has one
-abbrev pub converted : Option Scalar → Option ℕ
-converted f = option_map bits_of f
-
-unfoldable pub conv_of : ℕ → ℕ → ℕ → Option ℕ
-conv_of from to b = option_and_then (λ s. converted (convert_to to s)) (scalar_of from b)

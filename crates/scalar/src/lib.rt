@@ -45,7 +45,8 @@ fn step_of(a: Answer) -> Step
     }
 }
 
-// A binary operator but a shift, by its code, on two operands of one type. Arithmetic, which is asked for most, is tested for first.
+// A binary operator but a shift, by its code, on two operands of one type: 01 has one step chosen by the operator's code. Arithmetic, which is asked
+// for most, is tested for first.
 fn binary_op(op: u8, stage: ShaderStage, p: Option<Pair>) -> Answer
     ensures { answer_of result ≡ binary_of op stage p }
 {

@@ -13,6 +13,7 @@ use operand::{Instance, Outcome, formed, is_scalar, refused};
 use pairing::{call_fault, op_known, unary_known};
 
 // The unary operator of a code on a scalar, by its type and pattern.
+#[inline(always)]
 pub fn unary_scalar(op: u8, stage: u8, ty: u8, bits: u64) -> Outcome
     ensures { result ≡ unary_meaning op stage (a_scalar ty bits) }
 {
@@ -41,6 +42,7 @@ fn any_unary(op: u8, stage: u8, v: Instance) -> Outcome
 }
 
 // The binary operator of a code on two scalars, by their types and patterns.
+#[inline(always)]
 pub fn binary_scalars(op: u8, stage: u8, lt: u8, l: u64, rt: u8, r: u64) -> Outcome
     ensures { result ≡ binary_meaning op stage (a_scalar lt l) (a_scalar rt r) }
 {

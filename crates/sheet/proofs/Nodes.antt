@@ -6,8 +6,9 @@ use Prim.Native.Nat.{ℕ, zero, suc, ◌+◌, ◌*◌, ◌-◌, ◌<◌, ◌≤�
 use native.Mathlib.Numerals.{sub-one}
 use native.Mathlib.Omega.{arith}
 use lib.ListN.{length, get_or}
-use borrow.Author.Tests.{leb-true, le-leb, lt-leb, lt-ltb, le-ltb, ne_eqb}
-use Rattle.std.specs.Prelude.{Result, Ok, Err}
+use lib.Dec.{leb}
+use borrow.Author.Tests.{leb-true, leb-false, le-leb, lt-leb, lt-ltb, le-ltb, ne_eqb}
+use Rattle.std.specs.Prelude.{Result, Ok, Err, ⊤}
 use Rattle.low.specs.declared.Refused.{Refused}
 use Rattle.sheet.specs.declared.literals.LiteralHead.{LiteralHead}
 use Rattle.low.specs.Read.{Read, found, refused, must, then_read, read_as, there, refusal, seen_of}
@@ -17,6 +18,15 @@ use Rattle.sheet.specs.Node.{Tag, is_literal, is_reference, is_operator, unknown
 use Rattle.low.proofs.Reading.{was_read, was_refused, seen_as, must_is}
 use Rattle.value.specs.Refusals as No
 use Rattle.types.specs.Edition.{Edition}
+
+-- ---- a refusal by the test of the bytes left: n bytes are asked for of m, in so many
+pub not_there : (n m len : ℕ) (r : Refused) → ◌≡◌ {A = Result ⊤ Refused} (Err r) (must (leb n m) (refusal No.CutShort len) (Ok tt)) → (m < n) × (r ≡ record { number = No.CutShort; place = len })
+unfolding must
+not_there n m len r = go (leb n m) refl
+  where
+    go : (v : Bool) → leb n m ≡ v → ◌≡◌ {A = Result ⊤ Refused} (Err r) (must v (refusal No.CutShort len) (Ok tt)) → (m < n) × (r ≡ record { number = No.CutShort; place = len })
+    go true w e = absurd (let z : ◌≡◌ {A = ℕ} 0 1 = cc in omega arith)
+    go false w e = (leb-false n m w, cc)
 
 -- ---- what is read from a place on ends past it and within the body, and a refusal's place is in the body or just past it
 unfoldable pub Within : {A : Type 0} → List ℕ → ℕ → Read A → Type 0

@@ -5,20 +5,20 @@ ghost use Rattle.types.specs.Edition.{plain};
 ghost use Rattle.sheet.specs.Node.{literal_head, all_proper, components, literal_ok, read_literal, literal_in};
 ghost use Rattle.sheet.specs.Accepted.{LiteralAt};
 
-use crate::Literal;
-use low::{Refused, get, remaining};
+use crate::{Literal, refused, there};
+use low::{Refused, get};
 use operand::Instance;
 use value::refusals;
 
 // The three bytes after a literal's tag: its type, columns and rows.
-#[derive(Clone, Copy)]
+#[derive(Clone, Copy, Debug, PartialEq, Eq)]
 pub(crate) struct LiteralHead {
     ty: u8,
     cols: u8,
     rows: u8,
 }
 
-// How many components a shape has.
+// How many components a shape has, of any two bytes; `operand::count` asks for a shape that was judged.
 pub(crate) fn area(cols: u8, rows: u8) -> usize
     ensures { (result ≡ cols * rows) × (result < 65536) }
 {
@@ -57,31 +57,15 @@ fn all_proper(b: &[u8], at: usize, n: usize, ty: u8) -> bool
 pub(crate) fn read_literal(b: &[u8], at: usize, setting: bool) -> Result<usize, Refused>
     ensures { result ≡ seen_of (read_literal plain setting b.now at) }
 {
-    if remaining(b, at) < 4 {
-        return Err(Refused {
-            number: refusals::CUT_SHORT,
-            place: b.len(),
-        });
-    }
+    there(b, at, 4)?;
     let h = literal_head(b, at);
     if !literal_ok(setting, h) {
-        return Err(Refused {
-            number: refusals::BAD_VALUE,
-            place: at,
-        });
+        return Err(refused(refusals::BAD_VALUE, at));
     }
     let n = area(h.cols, h.rows);
-    if remaining(b, at + 4) < 8 * n {
-        return Err(Refused {
-            number: refusals::CUT_SHORT,
-            place: b.len(),
-        });
-    }
+    there(b, at + 4, 8 * n)?;
     if !all_proper(b, at + 4, n, h.ty) {
-        return Err(Refused {
-            number: refusals::BAD_VALUE,
-            place: at,
-        });
+        return Err(refused(refusals::BAD_VALUE, at));
     }
     Ok(at + 4 + 8 * n)
 }

@@ -5,7 +5,8 @@ ghost use Rattle.types.specs.Edition.{plain};
 ghost use Rattle.sheet.specs.Node.{operator_known, read_reference, read_operator, read_node};
 
 use crate::literals::read_literal;
-use low::{Refused, remaining};
+use crate::{refused, there};
+use low::Refused;
 use value::refusals;
 
 // Whether an operator code is known, before one operand or two.
@@ -19,24 +20,13 @@ fn known_operator(two: bool, op: u8) -> bool
 fn read_reference(b: &[u8], stages: &[u8], own: u8, at: usize) -> Result<usize, Refused>
     ensures { result ≡ seen_of (read_reference stages.now own b.now at) }
 {
-    if remaining(b, at) < 2 {
-        return Err(Refused {
-            number: refusals::CUT_SHORT,
-            place: b.len(),
-        });
-    }
+    there(b, at, 2)?;
     let k = b[at + 1] as usize;
     if stages.len() <= k {
-        return Err(Refused {
-            number: refusals::BAD_REF,
-            place: at,
-        });
+        return Err(refused(refusals::BAD_REF, at));
     }
     if own < stages[k] {
-        return Err(Refused {
-            number: refusals::BAD_STAGE,
-            place: at,
-        });
+        return Err(refused(refusals::BAD_STAGE, at));
     }
     Ok(at + 2)
 }
@@ -53,27 +43,16 @@ pub(crate) fn read_node(
     ensures { result ≡ seen_of (read_node plain levels stages.now own b.now at) }
 {
     if levels == 0 {
-        return Err(Refused {
-            number: refusals::TOO_DEEP,
-            place: at,
-        });
+        return Err(refused(refusals::TOO_DEEP, at));
     }
-    if remaining(b, at) < 1 {
-        return Err(Refused {
-            number: refusals::CUT_SHORT,
-            place: b.len(),
-        });
-    }
+    there(b, at, 1)?;
     let tag = b[at];
     match tag {
         1 => read_literal(b, at, false),
         2 => read_reference(b, stages, own, at),
         3 => read_operands(b, stages, own, at, levels - 1, false),
         4 => read_operands(b, stages, own, at, levels - 1, true),
-        _ => Err(Refused {
-            number: refusals::BAD_NODE,
-            place: at,
-        }),
+        _ => Err(refused(refusals::BAD_NODE, at)),
     }
 }
 
@@ -89,17 +68,9 @@ fn read_operands(
 ) -> Result<usize, Refused>
     ensures { result ≡ seen_of (read_operator two (read_node plain levels stages.now own b.now) b.now at) }
 {
-    if remaining(b, at) < 2 {
-        return Err(Refused {
-            number: refusals::CUT_SHORT,
-            place: b.len(),
-        });
-    }
+    there(b, at, 2)?;
     if !known_operator(two, b[at + 1]) {
-        return Err(Refused {
-            number: refusals::BAD_NODE,
-            place: at,
-        });
+        return Err(refused(refusals::BAD_NODE, at));
     }
     let next = read_node(b, stages, own, at + 2, levels)?;
     if two {

@@ -9,8 +9,8 @@ ghost use Rattle.sheet.specs.Record.{body_len, read_head, read_setting, read_kin
 use crate::literals::read_literal;
 use crate::node::read_node;
 use crate::stage::{counts_as, kind_of, stage_known};
-use crate::{Head, Kind, Passed};
-use low::{Refused, remaining};
+use crate::{Head, Kind, Passed, refused, there};
+use low::Refused;
 use value::refusals;
 
 // The length of the body of the record at a place.
@@ -25,32 +25,16 @@ fn body_len(s: &[u8], at: usize) -> usize
 pub fn read_head(s: &[u8], at: usize) -> Result<Head, Refused>
     ensures { result ≡ read_head s.now at }
 {
-    if remaining(s, at) < 5 {
-        return Err(Refused {
-            number: refusals::CUT_SHORT,
-            place: s.len(),
-        });
-    }
+    there(s, at, 5)?;
     if !((s[at] == 0xD5) & (s[at + 1] == 0x17)) {
-        return Err(Refused {
-            number: refusals::BAD_MARK,
-            place: at,
-        });
+        return Err(refused(refusals::BAD_MARK, at));
     }
     let stage = s[at + 2];
     if !stage_known(stage) {
-        return Err(Refused {
-            number: refusals::BAD_STAGE,
-            place: at + 2,
-        });
+        return Err(refused(refusals::BAD_STAGE, at + 2));
     }
     let len = body_len(s, at);
-    if remaining(s, at + 5) < len {
-        return Err(Refused {
-            number: refusals::CUT_SHORT,
-            place: s.len(),
-        });
-    }
+    there(s, at + 5, len)?;
     Ok(Head {
         stage,
         start: at + 5,
@@ -69,17 +53,9 @@ pub fn body(s: &[u8], start: usize, len: usize) -> &[u8]
 fn read_setting(b: &[u8]) -> Result<usize, Refused>
     ensures { result ≡ seen_of (read_setting plain b.now) }
 {
-    if b.len() == 0 {
-        return Err(Refused {
-            number: refusals::CUT_SHORT,
-            place: 0,
-        });
-    }
+    there(b, 0, 1)?;
     if b[0] != 1 {
-        return Err(Refused {
-            number: refusals::BAD_NODE,
-            place: 0,
-        });
+        return Err(refused(refusals::BAD_NODE, 0));
     }
     read_literal(b, 0, true)
 }
@@ -100,10 +76,7 @@ fn read_body(b: &[u8], stages: &[u8], stage: u8) -> Result<usize, Refused>
 {
     let n = read_kind(b, stages, stage)?;
     if n < b.len() {
-        return Err(Refused {
-            number: refusals::LEFTOVER,
-            place: n,
-        });
+        return Err(refused(refusals::LEFTOVER, n));
     }
     Ok(n)
 }
@@ -114,10 +87,7 @@ pub(crate) fn read_record(s: &[u8], stages: &[u8], at: usize) -> Result<Passed, 
 {
     let head = read_head(s, at)?;
     let b = body(s, head.start, head.len);
-    let n = read_body(b, stages, head.stage).map_err(|r| Refused {
-        number: r.number,
-        place: head.start + r.place,
-    })?;
+    let n = read_body(b, stages, head.stage).map_err(|r| refused(r.number, head.start + r.place))?;
     Ok(Passed {
         stage: counts_as(head.stage),
         next: head.start + n,

@@ -27,7 +27,7 @@ use Rattle.shift.specs.Shift.{count_over, shl_over, shl_over_u}
 
 -- ---- to the left
 -- `x << n` multiplies and wraps, whatever m = 2 ^ n is
-wrap_shl : (w : Width) (x : ℤ) (m : ℕ) → SFits w x → to_z w ((of_z w x * m) % 2 ^ bits w) ≡ wrap_s w (x *ℤ pos m)
+pub wrap_shl : (w : Width) (x : ℤ) (m : ℕ) → SFits w x → to_z w ((of_z w x * m) % 2 ^ bits w) ≡ wrap_s w (x *ℤ pos m)
 unfolding wrap_s wrap_u
 wrap_shl w x m f =
     ap (to_z w) (ap (λ (a : ℕ). (a * m) % 2 ^ bits w) (bits_wrap w x f)
@@ -47,7 +47,7 @@ shl_seen w x k {r} f e =
     ap (λ (z : ℤ). to_z w (of_z w z)) q ∙ wrap_back w (x *ℤ pos (2 ^ k))
 
 -- a count of the width or more leaves nothing
-shl_far : (w : Width) (x : ℤ) (n : ℕ) → SFits w x → bits w ≤ n → pos 0 ≡ wrap_s w (x *ℤ pos (2 ^ n))
+pub shl_far : (w : Width) (x : ℤ) (n : ℕ) → SFits w x → bits w ≤ n → pos 0 ≡ wrap_s w (x *ℤ pos (2 ^ n))
 shl_far w x n f h = sym (to_z_pos w 0 (pow_pos (hbits w))) ∙ ap (to_z w) (sym gone) ∙ wrap_shl w x (2 ^ n) f
   where
     split : n ≡ (n - bits w) + bits w
@@ -199,7 +199,7 @@ shl_past w (pos (suc a)) n z h = omega (arith, past w n h)
 shl_past w (negsuc a) n z h = neg_far (suc a * 2 ^ n) (2 ^ hbits w) (omega (arith, past w n h, pow_pos (hbits w)))
 
 -- ---- to the right
-shr_is : (w : Width) (x : ℤ) (m : ℕ) → SFits w x → to_z w (of_z w (shr_z (to_z w (of_z w x)) m)) ≡ shr_z x m
+pub shr_is : (w : Width) (x : ℤ) (m : ℕ) → SFits w x → to_z w (of_z w (shr_z (to_z w (of_z w x)) m)) ≡ shr_z x m
 shr_is w x m f = rw (to_z-of_z w x f) (to_z-of_z w (shr_z x m) (sfits_le (mag_shr x m) f))
 
 -- a count past the width shifts no further than to the sign

@@ -1,4 +1,5 @@
-// Shifts: to the left exactly, or wrapping around; to the right, rounded down.
+// Shifts: to the left exactly, or wrapping around; to the right, rounded down. The functions of a name share no rule: 32 bits refuse a far count or
+// take it modulo the width and 64 bits take any, and an unsigned number has another limit.
 #![tactic(auto)]
 
 ghost use Rattle.std.specs.Prelude.{◌≡◌, ◌*◌, ◌^◌, pos, ◌*ℤ◌};

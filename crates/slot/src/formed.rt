@@ -4,8 +4,9 @@ ghost use Rattle.types.specs.Edition.{plain};
 ghost use Rattle.slot.specs.Slot.{component_formed, components_formed, value_formed, blank, integer_formed, beside_formed, detail_formed, formed};
 
 use operand::{Instance, Outcome};
+use value::refusals;
 
-// How many components a shape has.
+// How many components a shape has; any two bytes are one here, so it is not `operand::count`, which asks for a shape that was judged.
 fn area(cols: u8, rows: u8) -> usize
     ensures { result ≡ cols * rows }
 {
@@ -70,7 +71,7 @@ fn beside_formed(number: u8, v: Instance) -> bool
 fn detail_formed(number: u8, detail: u32) -> bool
     ensures { result ≡ detail_formed number detail }
 {
-    (detail == 0) | value::carries(number) | (number == 11) & (detail < 128)
+    (detail == 0) | value::carries(number) | (number == refusals::FROM_ENTRY) & (detail < 128)
 }
 
 // Whether a slot that says this is well formed. Its components are gone through once.
@@ -80,5 +81,7 @@ pub(crate) fn formed(o: Outcome) -> bool
     if o.status == 0 {
         return (o.detail == 0) & value_formed(o.value);
     }
-    (o.status <= 11) & detail_formed(o.status, o.detail) & beside_formed(o.status, o.value)
+    (o.status <= refusals::FROM_ENTRY)
+        & detail_formed(o.status, o.detail)
+        & beside_formed(o.status, o.value)
 }

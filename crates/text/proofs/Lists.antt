@@ -36,7 +36,7 @@ unfolding lines
 lines_more b n = rw add-one
 
 -- no more elements than there are
-take_min : (xs : List ℕ) (m n : ℕ) → length xs ≡ n → take (min m n) xs ≡ take m xs
+pub take_min : (xs : List ℕ) (m n : ℕ) → length xs ≡ n → take (min m n) xs ≡ take m xs
 take_min xs m n e =
     ⊎_elim (λ (h : m ≤ n). ap (λ (j : ℕ). take j xs) (min-eq_left h))
     (λ (h : n < m).
@@ -45,12 +45,11 @@ take_min xs m n e =
     (le_or_lt m n)
 
 module _ (o : Outcome) (formed : Bool) where
-  pub shown_some : formed ≡ true → (n : ℕ) → n ≡ min (o.value.cols * o.value.rows) 16 → length o.value.comps ≡ 16
-      → words (take n o.value.comps) ≡ shown o formed
+  pub shown_some : formed ≡ true → shown o formed ≡ words (take (o.value.cols * o.value.rows) o.value.comps)
   unfolding shown
-  shown_some t n e l = rw (t, e) (ap words (take_min o.value.comps (o.value.cols * o.value.rows) 16 l))
+  shown_some t = rw t
 
-  pub shown_none : formed ≡ false → [] ≡ shown o formed
+  pub shown_none : formed ≡ false → shown o formed ≡ []
   unfolding shown
   shown_none f = rw f
 

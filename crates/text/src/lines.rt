@@ -1,10 +1,12 @@
 // The lines of a listing.
-ghost use Rattle.std.specs.Prelude.{◌≡◌, ◌+◌, ◌*◌, ◌/◌, ◌≤◌, min, length};
+ghost use Rattle.std.specs.Prelude.{◌≡◌, ◌+◌, ◌*◌, ◌/◌, ◌≤◌, min, length, take};
+ghost use Rattle.types.specs.Edition.{plain};
+ghost use Rattle.slot.specs.Slot.{slot, said_by, well_formed};
 ghost use Rattle.text.specs.Inside.{Puts};
-ghost use Rattle.text.specs.Text.{shown, line, lines, entries};
+ghost use Rattle.text.specs.Text.{words, line, lines, entries};
 
 use crate::put::Text;
-use operand::Outcome;
+use operand::Instance;
 
 // How many entries a results buffer has.
 pub(crate) fn entries(results: &[u8]) -> usize
@@ -22,21 +24,20 @@ fn used(cols: u8, rows: u8) -> usize
 
 impl Text<'_> {
     // The components in use.
-    fn components(&mut self, o: Outcome, formed: bool)
+    fn components(&mut self, v: Instance)
         requires { self.old.at + 336 ≤ length self.old.out.now }
-        ensures { Puts self.old self.new (shown o formed) × (self.new.at ≤ self.old.at + 336) }
+        ensures { Puts self.old self.new (words (take (v.cols * v.rows) v.comps)) × (self.new.at ≤ self.old.at + 336) }
     {
-        if formed {
-            let v = o.value;
-            self.row(&v.comps[..used(v.cols, v.rows)], true);
-        }
+        self.row(&v.comps[..used(v.cols, v.rows)], true);
     }
 
     // Entry k's line.
-    fn entry(&mut self, k: usize, o: Outcome, formed: bool)
+    fn entry(&mut self, results: &[u8], k: usize)
         requires { self.old.at + 480 ≤ length self.old.out.now }
-        ensures { Puts self.old self.new (line k o formed) × (self.new.at ≤ self.old.at + 480) }
+        ensures { Puts self.old self.new (line k (said_by (slot results.now k)) (well_formed plain (slot results.now k)))
+            × (self.new.at ≤ self.old.at + 480) }
     {
+        let o = slot::read(results, k);
         let v = o.value;
         self.decimal(k as u64);
         let fields = [
@@ -47,7 +48,9 @@ impl Text<'_> {
             u64::from(o.detail),
         ];
         self.row(&fields, false);
-        self.components(o, formed);
+        if slot::well_formed(results, k) {
+            self.components(v);
+        }
         self.bytes(b"\n");
     }
 
@@ -57,8 +60,7 @@ impl Text<'_> {
         ensures { Puts self.old self.new (lines results.now n) × (self.new.at ≤ self.old.at + 480 * n) }
     {
         for k in 0..n {
-            let o = slot::read(results, k);
-            self.entry(k, o, slot::well_formed(results, k));
+            self.entry(results, k);
         }
     }
 }

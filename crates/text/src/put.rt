@@ -31,7 +31,8 @@ impl Text<'_> {
         self.bytes(&digits[..k]);
     }
 
-    // A space and the digits of x: its sixteen hexadecimal ones, or its decimal ones.
+    // A space and the digits of x: its sixteen hexadecimal ones, or its decimal ones. The truth tells which, as in `digits_of`: with a
+    // method for each of them, `row` would be the same loop twice.
     pub(crate) fn number(&mut self, x: u64, hexadecimal: bool)
         requires { self.old.at + 21 ≤ length self.old.out.now }
         ensures { Puts self.old self.new (32 ∷ digits_of hexadecimal x) × (self.new.at ≤ self.old.at + 21) }

@@ -24,10 +24,14 @@ use Rattle.value.proofs.stage_of.Kinds as stage_of_kinds
 use Rattle.value.proofs.stage_of.Reads as stage_of_reads
 use Rattle.value.proofs.type_of.Kinds as type_of_kinds
 use Rattle.value.proofs.type_of.Reads as type_of_reads
-use Rattle.value.proofs.OperatorError.number.Kinds as number_kinds
-use Rattle.value.proofs.OperatorError.number.Reads as number_reads
-use Rattle.value.proofs.OperatorError.detail.Kinds as detail_kinds
-use Rattle.value.proofs.OperatorError.detail.Reads as detail_reads
+use Rattle.value.proofs.OperatorError.number.Kinds as error_number_kinds
+use Rattle.value.proofs.OperatorError.number.Reads as error_number_reads
+use Rattle.value.proofs.OperatorError.detail.Kinds as error_detail_kinds
+use Rattle.value.proofs.OperatorError.detail.Reads as error_detail_reads
+use Rattle.value.proofs.said.number.Kinds as number_kinds
+use Rattle.value.proofs.said.number.Reads as number_reads
+use Rattle.value.proofs.said.detail.Kinds as detail_kinds
+use Rattle.value.proofs.said.detail.Reads as detail_reads
 use Rattle.value.proofs.said.scalar_in.Kinds as scalar_in_kinds
 use Rattle.value.proofs.said.scalar_in.Reads as scalar_in_reads
 use Rattle.value.proofs.pattern.kept_scalar.Kinds as kept_scalar_kinds
@@ -93,6 +97,12 @@ stage_of_one κs a x y s t p q = p ∙ sym q
 
 pub type_of_one : OneResult 0 type_of_kinds.ps type_of_kinds.r type_of_reads.Post
 type_of_one κs a x y s t p q = p ∙ sym q
+
+pub error_number_one : OneResult 0 error_number_kinds.ps error_number_kinds.r error_number_reads.Post
+error_number_one κs a x y s t p q = p ∙ sym q
+
+pub error_detail_one : OneResult 0 error_detail_kinds.ps error_detail_kinds.r error_detail_reads.Post
+error_detail_one κs a x y s t p q = p ∙ sym q
 
 pub number_one : OneResult 0 number_kinds.ps number_kinds.r number_reads.Post
 number_one κs a x y s t p q = p ∙ sym q

@@ -59,7 +59,7 @@ pub enum Pair {
     F16(u16, u16),
 }
 
-// A refusal: its number and its detail, and the type and bits of the operand that a shift's carries. Any other's are 0.
+// A refusal as a slot has it: 01's number and its detail, and the type and bits of the operand that a shift's carries. Any other's are 0.
 #[derive(Clone, Copy, Debug, PartialEq, Eq)]
 pub struct Refusal {
     pub bits: u64,

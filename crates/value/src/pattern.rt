@@ -7,7 +7,7 @@ ghost use Rattle.value.specs.Scalar.{bits_of, kept_scalar, scalar_at, scalar_of}
 use crate::{Pair, Scalar};
 use rounding::Float;
 
-// The pattern of an F16 as it is kept.
+// The pattern of an F16 as it is kept: the row of `kept` for 16 bits alone, with no type to ask for.
 fn kept_half(bits: u16) -> u16
     ensures { result ≡ kept_of 6 bits }
 {

@@ -34,6 +34,26 @@ impl OperatorError {
     }
 }
 
+// The number of an answer's refusal; 0 for a value.
+pub fn number(a: Answer) -> u8
+    ensures { result ≡ number_of (answer_of a) }
+{
+    match a {
+        Ok(_) => 0,
+        Err(e) => e.number(),
+    }
+}
+
+// The detail of an answer's refusal; 0 for a value.
+pub fn detail(a: Answer) -> u32
+    ensures { result ≡ detail_of (answer_of a) }
+{
+    match a {
+        Ok(_) => 0,
+        Err(e) => e.detail(),
+    }
+}
+
 // The value, or the operand that a shift's refusal carries; of any other refusal the false, whose type and bits are 0.
 pub fn scalar_in(a: Answer) -> Scalar
     ensures { result ≡ scalar_in (answer_of a) }

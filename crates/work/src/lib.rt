@@ -14,7 +14,7 @@ use operand::Outcome;
 use sheet::Kind;
 
 // What a node means, and the place after it.
-#[derive(Clone, Copy)]
+#[derive(Clone, Copy, Debug, PartialEq, Eq)]
 pub struct Walked {
     pub answer: Outcome,
     pub next: usize,

@@ -8,13 +8,13 @@ use Rattle.sheet.proofs.Sheets.{going_start, going_end, going_full, going_bad, g
 use Rattle.sheet.proofs.check.Goals as goal
 
 pub returns-then-s-gt16384 : goal.returns-then-s-gt16384
-returns-then-s-gt16384 c = sheet_long _ c.if-s-gt16384.true
+returns-then-s-gt16384 c = rw c.refused.ensures (sheet_long _ c.if-s-gt16384.true)
 
 pub loop-at-init : goal.loop-at-init
 loop-at-init c = going_start _ _ refl c.if-s-gt16384.false
 
 pub returns-then-n-ge128 : goal.returns-then-n-ge128
-returns-then-n-ge128 c = going_full _ _ _ _ c.loop-at.invariant c.loop-at-test.true (omega arith)
+returns-then-n-ge128 c = rw c.refused-then-n-ge128.ensures (going_full _ _ _ _ c.loop-at.invariant c.loop-at-test.true (omega arith))
 
 pub slice_bounds-stages-end : goal.slice_bounds-stages-end
 slice_bounds-stages-end c = omega (arith, c.loop-at.invariant.wide)

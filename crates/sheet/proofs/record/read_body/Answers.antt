@@ -11,7 +11,7 @@ returns-in_err-n c =
     e ∙ body_refused _ _ _ _ _ c.read_kind.ensures _ c.in_err-n.was
 
 pub returns-then-n-b : goal.returns-then-n-b
-returns-then-n-b c = body_leftover _ _ _ _ _ c.read_kind.ensures _ c.in_ok-n.was c.if-n-b.true
+returns-then-n-b c = rw c.refused.ensures (body_leftover _ _ _ _ _ c.read_kind.ensures _ c.in_ok-n.was c.if-n-b.true)
 
 pub returns : goal.returns
 returns c = body_whole _ _ _ _ _ c.read_kind.ensures _ c.in_ok-n.was c.if-n-b.false

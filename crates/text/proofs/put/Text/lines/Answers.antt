@@ -16,7 +16,7 @@ entry-requires c = omega (arith, c.loop-k.invariant.1.long)
 pub loop-k-preserved : goal.loop-k-preserved
 loop-k-preserved c =
     let line = after c.loop-k.invariant.1 c.entry.ensures.0 (omega arith) in
-    (omega arith, rw (lines_more c.args.results.now c.loop-k.k, ← c.read-o.ensures, ← c.well_formed-in-loop-k.ensures) line)
+    (omega arith, rw (lines_more c.args.results.now c.loop-k.k) line)
 
 pub returns : goal.returns
 returns c =
