@@ -102,8 +102,11 @@ def shape(body):
 def main():
     if "--help" in sys.argv:
         sys.exit(__doc__)
-    words = [w for w in sys.argv[1:] if not w.startswith("--")]
+    words = [w for w in sys.argv[1:] if w != "--counts"]
     top = words[0] if words else "."
+    if len(words) > 1 or top.startswith("-") or not glob.glob(os.path.join(top, "crates/*/src/*.rt")):
+        print(f"forms: no crates below {' '.join(words) or '.'}", file=sys.stderr)
+        sys.exit(2)
     found = collections.defaultdict(list)
     suffixes = collections.defaultdict(list)
     for path in sorted(glob.glob(os.path.join(top, "crates/*/src/*.rt"))):
@@ -173,4 +176,8 @@ def main():
 
 
 if __name__ == "__main__":
-    main()
+    try:
+        main()
+        sys.stdout.flush()
+    except BrokenPipeError:
+        os.dup2(os.open(os.devnull, os.O_WRONLY), sys.stdout.fileno())
