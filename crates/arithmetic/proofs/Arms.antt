@@ -93,27 +93,19 @@ pub found_arm : (w : Width) (make : ℤ → Scalar) (z : ℤ → ℤ → ℤ) (d
     → q ≡ pick (no_quotient w (to_z w (of_z w x)) (to_z w (of_z w y))) None (Some (z (to_z w (of_z w x)) (to_z w (of_z w y))))
     → MatchOption q (m ≡ None) (λ z. IsSomeAnd m (λ s. s ≡ make z)) → o ≡ d (to_z w (of_z w x)) → a ≡ value_or m o
     → a ≡ pick (no_quotient w x y) (d x) (value (make (z x y)))
-found_arm w make z d q m {x} {y} f g e h k l =
-    l ∙ ap₂ value_or (mapped make q m h ∙ ap (option_map make) (e ∙ parts w (λ x y. pick (no_quotient w x y) None (Some (z x y))) f g)) (k ∙ ap d (to_z-of_z w x f))
-    ∙ spread (no_quotient w x y)
-  where
-    spread : (t : Bool) → value_or (option_map make (pick t None (Some (z x y)))) (d x) ≡ pick t (d x) (value (make (z x y)))
-    spread true = refl
-    spread false = refl
+found_arm w make z d {a} {o} q m f g e h k l =
+    quotient_arm w (λ q r. value_or (option_map make q) r) None Some z d f g e k (l ∙ ap (λ (m : Option Scalar). value_or m o) (mapped make q m h))
 
 -- the same of U32, which has a quotient by all but 0
 pub divided_arm : (z : ℕ → ℕ → ℕ) {a o d : Result} (q : Option ℕ) (m : Option Scalar) (x y : ℕ) → SomeIff q (zero < y) (z x y)
     → MatchOption q (m ≡ None) (λ n. IsSomeAnd m (λ s. s ≡ U32 n)) → o ≡ d → a ≡ value_or m o → a ≡ pick (eqb y 0) d (value (U32 (z x y)))
 divided_arm z {a} {o} {d} q m x y e h k l =
-    l ∙ ap₂ value_or (mapped U32 q m h ∙ ap (option_map U32) (found_unless q (z x y) (eqb y 0) e (λ t. above (eqb-false y 0 t)) (λ l. ne_eqb y 0 (below l)))) k
-    ∙ spread (eqb y 0)
+    either_arm (λ q r. value_or (option_map U32 q) r) (eqb y 0) None (Some (z x y))
+    (found_unless q (z x y) (eqb y 0) e (λ t. above (eqb-false y 0 t)) (λ l. ne_eqb y 0 (below l))) k
+    (l ∙ ap (λ (m : Option Scalar). value_or m o) (mapped U32 q m h))
   where
     above : (y ≡ 0 → ⊥) → zero < y
     above n = omega arith
 
     below : zero < y → y ≡ 0 → ⊥
     below l e = omega arith
-
-    spread : (t : Bool) → value_or (option_map U32 (pick t None (Some (z x y)))) d ≡ pick t d (value (U32 (z x y)))
-    spread true = refl
-    spread false = refl

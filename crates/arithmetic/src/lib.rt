@@ -40,11 +40,14 @@ fn not_finite(op: u8, own: ShaderStage, stage: ShaderStage, left: Scalar, s: Sca
     }
 }
 
-// What was found, or else the other answer.
+// What was found, or else the other answer. 01 names the form: a let that returns early.
 fn value_or(found: Option<Scalar>, other: Answer) -> Answer
     ensures { answer_of result ≡ value_or found (answer_of other) }
 {
-    found.map_or(other, Ok)
+    let Some(s) = found else {
+        return other;
+    };
+    Ok(s)
 }
 
 // `+ - * / %` of two AbstractInts. Here and in the two below each integer type has its own rule of what refuses, wraps or divides.

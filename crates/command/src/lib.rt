@@ -62,11 +62,16 @@ fn print<R: Print>(
     rt.write_all(&out[..n])
 }
 
+// The same, in a buffer of its own: as a local of `run` it was filled with zeros twice.
+fn print_out<R: Print>(rt: &R, line: &[u8], readable: bool, bytes: &[u8]) -> std::io::Result<()> {
+    let mut out = [0u8; 4194304];
+    print(rt, &mut out, line, readable, bytes)
+}
+
 // Runs the command: reads its file, of which a byte past the longest sheet is enough, and writes its text.
 pub fn run<R: Files + Print>(rt: &R, line: &[u8]) -> std::io::Result<()> {
     let mut bytes = [0u8; 16385];
     let read = load(rt, asked::sheet_word(line), &mut bytes);
     let n = read.unwrap_or(0);
-    let mut out = [0u8; 4194304];
-    print(rt, &mut out, line, read.is_some(), &bytes[..n])
+    print_out(rt, line, read.is_some(), &bytes[..n])
 }

@@ -111,17 +111,17 @@ module _ (s : List ℕ) (size n i ty bits : ℕ) (b : Bool) (e : b ≡ eqb size 
             (λ k es z good c. (asked es z good c ∙ k, (there es z good c).1), λ k es z good c. (asked es z good c, k, refl))
 
         pub judged_value : p ≡ false → Judged s size n i ty bits (refusal 26 0)
-        unfolding Judged Judges must
-        judged_value k = λ es z good c. (of_content es z good c ∙ rw k, (λ h. omega arith), refl)
+        unfolding must
+        judged_value k = (judged_content No.BadValue (rw (← v, k))).1 (λ h. omega arith)
 
         module _ (k : p ≡ true) where
           pub judged_type : ty ≢ own → Judged s size n i ty bits (refusal 32 0)
-          unfolding Judged Judges must
-          judged_type ne = λ es z good c. (of_content es z good c ∙ rw (k, ne_eqb ty own ne), (λ h. omega arith), refl)
+          unfolding must
+          judged_type ne = (judged_content No.SettingType (rw (← v, k, ne_eqb ty own ne))).1 (λ h. omega arith)
 
           pub judged_fits : ty ≡ own → Judged s size n i ty bits (Ok at)
-          unfolding Judged Judges must
-          judged_fits same = λ es z good c. (of_content es z good c ∙ rw (k, eq-eqb ty own same), (there es z good c).1)
+          unfolding must
+          judged_fits same = (judged_content 0 (rw (← v, k, eq-eqb ty own same))).0 refl
 
 -- what a change that no check refuses has passed
 pub record NoFault (es : Sheet) (size i ty bits : ℕ) : Type 0 where

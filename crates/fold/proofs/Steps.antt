@@ -2,10 +2,11 @@
 use mathlib.Core.Path.{◌≡◌, refl, sym, ap, ◌∙◌}
 use mathlib.Core.List.{List, Memᴰ}
 use mathlib.Core.Bool.{Bool, true, false, ◌&&◌}
-use Prim.Native.Nat.{ℕ, ◌+◌, ◌*◌, ◌/◌, ◌%◌, ◌≤◌, ◌<◌}
+use Prim.Native.Nat.{ℕ, ◌+◌, ◌*◌, ◌/◌, ◌%◌, ◌^◌, ◌≤◌, ◌<◌}
 use native.Mathlib.Omega.{arith}
 use native.Mathlib.Nat.{le_antisymm, zero-add}
-use Rattle.std.specs.Prelude.{Some, None}
+use Rattle.std.specs.Prelude.{Option, Some, None}
+use Rattle.std.specs.Option.{SomeIff, option_eq}
 use lib.ListN.{length, get_or, replicate, get_or-replicate}
 use lib.Dec.{eqb}
 use borrow.Author.Tests.{lt-leb, le-leb, eq-eqb, ne_eqb, eqb-true, eqb-false}
@@ -44,6 +45,18 @@ sized_is size n = go (eqb (size / 136) n) refl (eqb (size % 136) 0) refl
     go true p true q = sym (eq-eqb size (136 * n) (omega (arith, eqb-true (size / 136) n p, eqb-true (size % 136) 0 q)))
     go true p false q = sym (ne_eqb size (136 * n) (λ e. eqb-false (size % 136) 0 q (omega arith)))
     go false p b q = sym (ne_eqb size (136 * n) (λ e. eqb-false (size / 136) n p (omega arith)))
+
+-- as `sized` asks it: o is std's product by 136, where 64 bits hold it
+pub sized_found : (size n : ℕ) (o : Option ℕ) {b : Bool} → size < 2 ^ 64 → SomeIff o (n * 136 < 2 ^ 64) (n * 136) → b ≡ option_eq eqb o (Some size) → b ≡ eqb size (136 * n)
+sized_found size n None f h e = e ∙ sym (ne_eqb size (136 * n) (λ q. h (fits q)))
+  where
+    fits : size ≡ 136 * n → n * 136 < 2 ^ 64
+    fits q = omega arith
+sized_found size n (Some x) f h e = e ∙ go (eqb x size) refl
+  where
+    go : (t : Bool) → eqb x size ≡ t → eqb x size ≡ eqb size (136 * n)
+    go true p = p ∙ sym (eq-eqb size (136 * n) (omega (arith, eqb-true x size p, h.1)))
+    go false p = p ∙ sym (ne_eqb size (136 * n) (λ q. eqb-false x size p (omega (arith, h.1))))
 
 -- ---- the meanings of an accepted sheet look at earlier entries alone
 means_same : (sh : Sheet) (k : ℕ) (l r : List ℕ) → ((j : ℕ) → Memᴰ j (refs_of sh k) → slot l j ≡ slot r j) → means_of sh k l ≡ means_of sh k r

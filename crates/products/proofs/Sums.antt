@@ -76,7 +76,7 @@ module _ (stage ty : ℕ) (v m : List ℕ) (rows cols : ℕ) where
     rows_refused r q = sum_more _ _ k (Ok s) (Err r) h e (rw (← q))
 
     pub rows_more : (t : List ℕ) (o : Out (List ℕ)) → Ok t ≡ row k → o ≡ plus_all stage ty cols s t → o ≡ sums (k + 1 - 1)
-    rows_more t o q w = sum_more _ _ k (Ok s) o h e (rw (← q) w)
+    rows_more t o q w = sum_more _ _ k (Ok s) o h e (next_go (plus_all stage ty cols) s t (row k) q o w)
 
   pub rows_stop : (k : ℕ) (r : Refusal) → k ≤ rows - 1 → Err r ≡ sums k → Err r ≡ sums (rows - 1)
   rows_stop k r h e = sum_stop _ _ k (rows - 1) r h e

@@ -1,7 +1,6 @@
 -- Doubling modulo n, and a pattern's smallest values. Assumes nothing.
-use Rattle.std.proofs.Common.{◌≡◌, ℕ, suc, ◌+◌, ◌-◌, ◌*◌, ◌/◌, ◌%◌, ◌^◌, ◌<◌, ◌≤◌, ◌⊎◌, ◌&&◌, Bool, true, false, ltb, ltb-true, ltb-false, sym, refl, ap, ◌∙◌, mod-lt, mod-eq_of_lt, arith, pow_pos, pow_mono, pow-add, lt-ltb, le-ltb, inl, inr}
+use Rattle.std.proofs.Common.{◌≡◌, ℕ, suc, ◌+◌, ◌-◌, ◌*◌, ◌/◌, ◌%◌, ◌^◌, ◌<◌, ◌≤◌, ◌⊎◌, sym, refl, ap, ◌∙◌, mod-lt, mod-eq_of_lt, arith, pow_pos, pow_mono, pow-add, lt-ltb, le-ltb, inl, inr}
 use Rattle.std.proofs.Math.Nat.{mod-eq-sub-mod, add-mod, pow-suc, mod-add-div', add-mul-mod_self_right, mul-add-mod_self_right, mul-add-div_right, mul-lt-mul_of_pos_right, div-lt_iff_lt-mul, le-div_iff_mul-le, lt-div-mul-add, mul-le-mul, mul_assoc, mul-pos}
-use Rattle.std.proofs.lemmas.Bool.{true≢false, false≢true}
 use Rattle.integer.proofs.Order.{le_or_lt}
 use Rattle.remainder.specs.Units.{digits_of, places_of, units_of}
 
@@ -69,22 +68,6 @@ pub packed_all : (h m p : ℕ) → m < 2 * h → (p ≡ 0) ⊎ (h ≤ m) → uni
 packed_all h m p b (inr k) = packed_high h m p k b
 packed_all h m p b (inl z) =
     ap (units_of h) (ap (λ (q : ℕ). q * h + m) z ∙ omega arith) ∙ packed_low h m b ∙ ap (λ (q : ℕ). m * 2 ^ q) (sym z)
-
-pub going : (m p h : ℕ) → (ltb 0 p && ltb m h) ≡ true → (0 < p) × (m < h)
-going m p h e = go (ltb 0 p) (ltb m h) refl refl e
-  where
-    go : (a b : Bool) → ltb 0 p ≡ a → ltb m h ≡ b → (a && b) ≡ true → (0 < p) × (m < h)
-    go true true x y z = (ltb-true 0 p x, ltb-true m h y)
-    go true false x y z = absurd (false≢true z)
-    go false b x y z = absurd (false≢true z)
-
-pub gone : (m p h : ℕ) → (ltb 0 p && ltb m h) ≡ false → (p ≡ 0) ⊎ (h ≤ m)
-gone m p h e = go (ltb 0 p) (ltb m h) refl refl e
-  where
-    go : (a b : Bool) → ltb 0 p ≡ a → ltb m h ≡ b → (a && b) ≡ false → (p ≡ 0) ⊎ (h ≤ m)
-    go true true x y z = absurd (true≢false z)
-    go true false x y z = inr (ltb-false m h y)
-    go false b x y z = inl (omega (arith, ltb-false 0 p x))
 
 pub half : (m p : ℕ) → 0 < p → (m + m) * 2 ^ (p - 1) ≡ m * 2 ^ p
 half m p h = (let e : (m + m) * 2 ^ (p - 1) ≡ m * 2 ^ (p - 1) + m * 2 ^ (p - 1) = omega arith in e) ∙ sym (double_pow m (p - 1)) ∙ ap (λ (k : ℕ). m * 2 ^ k) (let e : p - 1 + 1 ≡ p = omega arith in e)

@@ -55,7 +55,7 @@ fn packed(c: u64, e: u64, h: u64) -> u64
     let mut m = c;
     let mut p = e;
     // The end depends on m, so no `for` counts it.
-    while (0 < p) & (m < h) {
+    while 0 < p && m < h {
         m += m;
         p -= 1;
     }

@@ -107,20 +107,21 @@ module _ (two : Bool) (below : ℕ → Read Expr) (b : List ℕ) (at : ℕ) wher
     unfolding must
     operator_bad f = sym (ap seen_of by_operator_lem ∙ rw f)
 
-    -- r is what the first operand answered
-    module _ (f : g ≡ true) (r : Result ℕ Refused) (h : r ≡ seen_of (below (at + 2))) where
+    module _ (f : g ≡ true) where
       by_operands : (v : Bool) → two ≡ v → read_operator two below b at ≡ operands v at (get_or b (at + 1) 0) below (at + 2)
       by_operands v e = by_operator_lem ∙ must_is _ _ _ _ _ f (ap (λ (x : Bool). operands x at (get_or b (at + 1) 0) below (at + 2)) e)
 
-      pub operator_not : (z : Refused) → r ≡ Err z → Err z ≡ seen_of (read_operator two below b at)
-      operator_not z i = seen_not at (get_or b (at + 1) 0) below (at + 2) two z (sym i ∙ h) ∙ sym (ap seen_of (by_operands two refl))
+      pub operator_one : two ≡ false → seen_of (below (at + 2)) ≡ seen_of (read_operator two below b at)
+      operator_one e = sym (ap seen_of (by_operands false e) ∙ seen_one at (get_or b (at + 1) 0) below (at + 2))
 
-      module _ (m : ℕ) (i : r ≡ Ok m) where
-        pub operator_one : two ≡ false → Ok m ≡ seen_of (read_operator two below b at)
-        operator_one e = sym i ∙ h ∙ sym (ap seen_of (by_operands false e) ∙ seen_one at (get_or b (at + 1) 0) below (at + 2))
+      -- r is what the first operand answered
+      module _ (r : Result ℕ Refused) (h : r ≡ seen_of (below (at + 2))) where
+        pub operator_not : (z : Refused) → r ≡ Err z → Err z ≡ seen_of (read_operator two below b at)
+        operator_not z i = seen_not at (get_or b (at + 1) 0) below (at + 2) two z (sym i ∙ h) ∙ sym (ap seen_of (by_operands two refl))
 
-        pub operator_two : two ≡ true → seen_of (below m) ≡ seen_of (read_operator two below b at)
-        operator_two e = sym (ap seen_of (by_operands true e) ∙ seen_two at (get_or b (at + 1) 0) below (at + 2) m (sym i ∙ h))
+        module _ (m : ℕ) (i : r ≡ Ok m) where
+          pub operator_two : two ≡ true → seen_of (below m) ≡ seen_of (read_operator two below b at)
+          operator_two e = sym (ap seen_of (by_operands true e) ∙ seen_two at (get_or b (at + 1) 0) below (at + 2) m (sym i ∙ h))
 
 -- ---- a reference, as the code goes
 module _ (stages : List ℕ) (own : ℕ) (b : List ℕ) (at : ℕ) where

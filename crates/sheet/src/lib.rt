@@ -32,16 +32,16 @@ pub enum Kind {
 // What a record's first five bytes say: its stage byte, where its body starts and how long it is.
 #[derive(Clone, Copy, Debug, PartialEq, Eq)]
 pub struct Head {
-    pub stage: u8,
     pub start: usize,
     pub len: usize,
+    pub stage: u8,
 }
 
 // A record that was read: the stage that it counts as and the place after it.
 #[derive(Clone, Copy, Debug, PartialEq, Eq)]
 pub struct Passed {
-    pub stage: u8,
     pub next: usize,
+    pub stage: u8,
 }
 
 // A literal's value and the place after it.

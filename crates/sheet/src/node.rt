@@ -48,7 +48,7 @@ pub(crate) fn read_node(
     there(b, at, 1)?;
     let tag = b[at];
     match tag {
-        1 => read_literal(b, at, false),
+        1 => Ok(read_literal(b, at, false)?),
         2 => read_reference(b, stages, own, at),
         3 => read_operands(b, stages, own, at, levels - 1, false),
         4 => read_operands(b, stages, own, at, levels - 1, true),
@@ -56,8 +56,11 @@ pub(crate) fn read_node(
     }
 }
 
-// Judges the operator of the node at a place and its operands, left before right.
+// Judges the operator of the node at a place and its operands, left before right. It is part of its caller by the attribute: as a call of its own
+// it moves each answer once more. Here and above an answer is taken apart by `?` and made anew: a Result that is handed on as it stands is moved
+// with the bytes that its Ok does not use, and a check took twice the time.
 #[cycle(read_node_read_operands)]
+#[inline(always)]
 fn read_operands(
     b: &[u8],
     stages: &[u8],
@@ -74,7 +77,7 @@ fn read_operands(
     }
     let next = read_node(b, stages, own, at + 2, levels)?;
     if two {
-        return read_node(b, stages, own, next, levels);
+        return Ok(read_node(b, stages, own, next, levels)?);
     }
     Ok(next)
 }

@@ -4,10 +4,10 @@ use mathlib.Core.Bool.{Bool, true, false, not, ◌||◌}
 use mathlib.Core.Logic.{◌⊎◌, inl, inr}
 use Prim.Native.Nat.{ℕ, zero, suc, ◌+◌, ◌-◌, ◌*◌, ◌/◌, ◌%◌, ◌^◌, ◌≤◌, ◌<◌, min}
 use native.Mathlib.Omega.{arith}
-use native.Mathlib.Nat.{mul-lt-mul_of_pos_right, mul-le-mul_right, mul_comm, mul_assoc, div-eq_of_lt, div-lt_iff_lt-mul, le-div_iff_mul-le, mod-eq_of_lt, mul-mod_left, lt_of_lt_of_le}
+use native.Mathlib.Nat.{mul-lt-mul_of_pos_right, mul-le-mul_right, mul_comm, mul_assoc, div-eq_of_lt, div-lt_iff_lt-mul, le-div_iff_mul-le, mod-eq_of_lt, mul-mod_left, one-mul, lt_of_lt_of_le}
 use borrow.Author.Tests.{le-ltb, lt-ltb, lt-leb}
 use lib.Dec.{leb}
-use lib.Pow.{pow_pos, pow_mono, pow-add}
+use lib.Pow.{pow_pos, pow_mono, pow-lt, pow-add}
 use lib.IntN.{ℤ, pos, negsuc, neg_ℤ, ◌*ℤ◌}
 use lib.Signed.{mag, shr_z, mag_shr}
 use mir.Syntax.{Width, w64}
@@ -117,6 +117,26 @@ shl_within_u w x n l h =
     let f = product_within w x (2 ^ n) (pow_pos n) h in
     rw (shift_taken w n l (lt-ltb (x * 2 ^ n) (2 ^ bits w) f)) (ap Some (mod-eq_of_lt f))
 
+-- ---- a number is in the range that a product leaves exactly if its size m is below 1 << (hbits - n)
+limit : (w : Width) (n : ℕ) → n ≤ hbits w → (1 * 2 ^ (hbits w - n)) % 2 ^ bits w ≡ 2 ^ (hbits w - n)
+limit w n h = ap (λ (k : ℕ). k % 2 ^ bits w) (one-mul (2 ^ (hbits w - n))) ∙ mod-eq_of_lt (pow-lt (omega (arith, bits-suc w)))
+
+module _ (w : Width) (x : ℤ) (n m : ℕ) (f : SFits w x) (h : n ≤ hbits w) (e : m ≡ mag (to_z w (of_z w x))) where
+  size : m ≡ mag x
+  size = e ∙ ap mag (to_z-of_z w x f)
+
+  whole_pow : 2 ^ (hbits w - n) * 2 ^ n ≡ 2 ^ hbits w
+  whole_pow = sym (pow-add 2 (hbits w - n) n) ∙ ap (λ (k : ℕ). 2 ^ k) back
+    where
+      back : hbits w - n + n ≡ hbits w
+      back = omega arith
+
+  shl_in : m < (1 * 2 ^ (hbits w - n)) % 2 ^ bits w → SFits w (x *ℤ pos (2 ^ n))
+  shl_in q = record { sfits = rw (sym whole_pow) (scaled_in x (2 ^ (hbits w - n)) (2 ^ n) (pow_pos n) (rw (limit w n h, size) at q)) }
+
+  shl_out : (1 * 2 ^ (hbits w - n)) % 2 ^ bits w ≤ m → 2 ^ hbits w ≤ mag (x *ℤ pos (2 ^ n))
+  shl_out q = rw (sym whole_pow) (scaled_out x (2 ^ (hbits w - n)) (2 ^ n) (pow_pos n) (rw (limit w n h, size) at q))
+
 -- ---- the top n + 1 bits are alike: x >> (hbits - n) is 0 or -1
 mag_of_shr : (x : ℤ) (k : ℕ) → mag (shr_z x k) ≡ mag x / k
 mag_of_shr (pos a) k = refl
@@ -161,33 +181,28 @@ module _ (w : Width) (x : ℤ) (n : ℕ) (f : SFits w x) (h : n ≤ hbits w) whe
           neither (inl e) = a (top_is ∙ e)
           neither (inr e) = b (top_is ∙ e)
 
-  whole_pow : room * 2 ^ n ≡ 2 ^ hbits w
-  whole_pow = sym (pow-add 2 (hbits w - n) n) ∙ ap (λ (k : ℕ). 2 ^ k) back
-    where
-      back : hbits w - n + n ≡ hbits w
-      back = omega arith
+  -- what the test says of the product, by its size
+  top_in : (top ≡ 0) ⊎ ((top ≡ 0 → ⊥) × (top ≡ 2 ^ bits w - 1)) → SFits w (x *ℤ pos (2 ^ n))
+  top_in e = shl_in w x n (mag (to_z w (of_z w x))) f h refl (rw (limit w n h, to_z-of_z w x f) (alike e))
 
-  shl_in : (top ≡ 0) ⊎ ((top ≡ 0 → ⊥) × (top ≡ 2 ^ bits w - 1)) → SFits w (x *ℤ pos (2 ^ n))
-  shl_in e = record { sfits = rw (sym whole_pow) (scaled_in x room (2 ^ n) (pow_pos n) (alike e)) }
-
-  shl_out : (top ≡ 0 → ⊥) × (top ≡ 2 ^ bits w - 1 → ⊥) → 2 ^ hbits w ≤ mag (x *ℤ pos (2 ^ n))
-  shl_out e = rw (sym whole_pow) (scaled_out x room (2 ^ n) (pow_pos n) (differ e))
+  top_out : (top ≡ 0 → ⊥) × (top ≡ 2 ^ bits w - 1 → ⊥) → 2 ^ hbits w ≤ mag (x *ℤ pos (2 ^ n))
+  top_out e = shl_out w x n (mag (to_z w (of_z w x))) f h refl (rw (limit w n h, to_z-of_z w x f) (differ e))
 
   -- what the test says of the answer, with a limit on the count and without
   pub shl_taken : (top ≡ 0) ⊎ ((top ≡ 0 → ⊥) × (top ≡ 2 ^ bits w - 1)) → Some (to_z w ((of_z w x * 2 ^ n) % 2 ^ bits w)) ≡ pick (shl_over w x n) None (Some (x *ℤ pos (2 ^ n)))
   shl_taken e =
-      let g : SFits w (x *ℤ pos (2 ^ n)) = shl_in e in
+      let g : SFits w (x *ℤ pos (2 ^ n)) = top_in e in
       rw (shift_taken w n (omega (arith, bits-suc w)) (in_yes w (x *ℤ pos (2 ^ n)) g)) (ap Some (exact_shl w x (2 ^ n) f g))
 
   pub shl_refused : (top ≡ 0 → ⊥) × (top ≡ 2 ^ bits w - 1 → ⊥) → None ≡ pick (shl_over w x n) None (Some (x *ℤ pos (2 ^ n)))
-  shl_refused e = rw (product_refused w n (in_no w (x *ℤ pos (2 ^ n)) (shl_out e)))
+  shl_refused e = rw (product_refused w n (in_no w (x *ℤ pos (2 ^ n)) (top_out e)))
 
 module _ (x : ℤ) (n : ℕ) (f : SFits w64 x) (h : n ≤ 63) where
   pub whole_taken : (top w64 x n f h ≡ 0) ⊎ ((top w64 x n f h ≡ 0 → ⊥) × (top w64 x n f h ≡ 2 ^ 64 - 1)) → Some (to_z w64 ((of_z w64 x * 2 ^ n) % 2 ^ 64)) ≡ whole_of (x *ℤ pos (2 ^ n))
-  whole_taken e = let g : SFits w64 (x *ℤ pos (2 ^ n)) = shl_in w64 x n f h e in ap Some (exact_shl w64 x (2 ^ n) f g) ∙ whole_exact (x *ℤ pos (2 ^ n)) g
+  whole_taken e = let g : SFits w64 (x *ℤ pos (2 ^ n)) = top_in w64 x n f h e in ap Some (exact_shl w64 x (2 ^ n) f g) ∙ whole_exact (x *ℤ pos (2 ^ n)) g
 
   pub whole_refused : (top w64 x n f h ≡ 0 → ⊥) × (top w64 x n f h ≡ 2 ^ 64 - 1 → ⊥) → None ≡ whole_of (x *ℤ pos (2 ^ n))
-  whole_refused e = whole_out (x *ℤ pos (2 ^ n)) (shl_out w64 x n f h e)
+  whole_refused e = whole_out (x *ℤ pos (2 ^ n)) (top_out w64 x n f h e)
 
 past : (w : Width) (n : ℕ) → bits w ≤ n → 2 ^ hbits w * 2 ≤ 2 ^ n
 past w n h = subst (λ (m : ℕ). m ≤ 2 ^ n) (pow-bits w) (pow_mono h)

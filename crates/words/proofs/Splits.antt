@@ -6,23 +6,13 @@ use Prim.Native.Nat.{ℕ, zero, suc, ◌+◌, ◌-◌, ◌≤◌, ◌<◌, min}
 use native.Mathlib.Omega.{arith}
 use native.Mathlib.Nat.{not-suc-le-zero, zero-min, min-zero, suc-min-suc}
 use lib.Dec.{eqb}
-use lib.ListN.{length, take, drop, length-drop, drop_of_length-le}
-use lib.Seq.{drop-drop}
-use Rattle.std.proofs.Common.{position, unwrap_or, count_by, Option, Some, None, Bor, inl, inr}
-use Rattle.std.specs.Slice.{IsGetRangeResult}
-use Rattle.std.specs.List.{position_or_len}
-use Rattle.std.proofs.lemmas.Grind.{common_steps}
-use Rattle.std.proofs.lemmas.List.Recursion.{is_sum_by, is_position_or_len}
+use lib.ListN.{length, take, drop, get_or, length-drop, drop_of_length-le}
+use lib.Seq.{drop-cons, drop-drop}
+use borrow.Author.Tests.{eq-eqb, ne_eqb}
+use native.Mathlib.Numerals.{add-one}
+use Rattle.std.proofs.Common.{count_by}
+use Rattle.std.proofs.lemmas.List.Recursion.{is_sum_by}
 use Rattle.words.specs.Split.{before, behind, word_at, next_place, word_place, word_count}
-
--- a part's end is the first place of its byte, or the end
-pub before_place : (end : ℕ) (l : List ℕ) → length (before end l) ≡ position_or_len (λ c. eqb c end) l
-unfolding before
-before_place end = is_position_or_len (λ l. length (before end l)) (λ c. eqb c end) refl (λ c cs. one (eqb c end) c cs)
-  where
-    one : (t : Bool) (c : ℕ) (cs : List ℕ) → length (cond t [] (c ∷ before end cs)) ≡ cond t 0 (1 + length (before end cs))
-    one true c cs = refl
-    one false c cs = omega arith
 
 before_short : (end : ℕ) (l : List ℕ) → length (before end l) ≤ length l
 unfolding before
@@ -33,14 +23,19 @@ before_short end (c ∷ cs) = by_cases (eqb c end) (before_short end cs)
     by_cases true h = omega arith
     by_cases false h = omega arith
 
-pub before_found : (end : ℕ) (l : List ℕ) → unwrap_or (position (λ c. eqb c end) l) (length l) ≡ length (before end l)
-before_found end l = grind (arith, common_steps, before_place end l, before_short end l)
+-- a part, byte after byte: one that ends it, another, or none
+module _ (end : ℕ) (s : List ℕ) (i : ℕ) where
+  pub part_ends : i < length s → get_or s i 0 ≡ end → length (before end (drop i s)) ≡ 0
+  unfolding before
+  part_ends h e = rw (drop-cons s i 0 h, eq-eqb (get_or s i 0) end e)
 
--- what is left from a place on
-pub rest_gotten : (s : List ℕ) (from : ℕ) (r : Option (Bor (List ℕ))) (d : Bor (List ℕ)) → IsGetRangeResult s from (length s) r → d.now ≡ [] → (unwrap_or r d).now ≡ drop from s
-rest_gotten s from (Some x) d g e = grind (arith, common_steps)
-rest_gotten s from None d (inl h, q) e = e ∙ sym (drop_of_length-le s (omega arith))
-rest_gotten s from None d (inr h, q) e = absurd (omega arith)
+  pub part_more : i < length s → (get_or s i 0 ≡ end → ⊥) → length (before end (drop i s)) ≡ length (before end (drop (i + 1) s)) + 1
+  unfolding before
+  part_more h n = rw (drop-cons s i 0 h, ne_eqb (get_or s i 0) end n, add-one i) (omega arith)
+
+  pub part_none : length s ≤ i → length (before end (drop i s)) ≡ 0
+  unfolding before
+  part_none h = rw (drop_of_length-le s h)
 
 pub zeros_counted : (l : List ℕ) → word_count l ≡ count_by (λ c. eqb c 0) l
 unfolding word_count

@@ -6,8 +6,13 @@ ghost use Rattle.words.specs.Split.{before, next_place, WordOf, word_count};
 pub fn end_of(s: &[u8], from: usize, end: u8) -> usize
     ensures { result ≡ from + length (before end (drop from s.now)) }
 {
-    let rest = s.get(from..).unwrap_or(&[]);
-    from + rest.iter().position(|b| *b == end).unwrap_or(rest.len())
+    // With `position` on what is left each word of a byte or two took half as long again, and a line is walked once for each of its words.
+    for i in from..s.len() {
+        if s[i] == end {
+            return i;
+        }
+    }
+    from.max(s.len())
 }
 
 // Where the next word starts.

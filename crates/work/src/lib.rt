@@ -80,8 +80,10 @@ pub fn walk_node(b: &[u8], results: &[u8], stage: u8, at: usize) -> Walked
     }
 }
 
-// An operator node: both operands are worked out before either is looked at.
+// An operator node: both operands are worked out before either is looked at. It is part of its caller by the attribute: as a call of its own it copies
+// each answer once more.
 #[cycle(walk_node_walk_operands)]
+#[inline(always)]
 fn walk_operands(b: &[u8], results: &[u8], stage: u8, at: usize, two: bool) -> Walked
     requires { NodeAt plain b.now at × (get_or b.now at 0 ≡ tag_byte two) }
     ensures { NodeMeans plain stage b.now results.now at result }

@@ -26,8 +26,14 @@ read_node-read_operands-requires t c = (omega (arith, c.in_ok-there.ensures.left
 pub read_node-read_operands-requires-in-4 : goal.read_node-read_operands-requires-in-4
 read_node-read_operands-requires-in-4 t c = (omega (arith, c.in_ok-there.ensures.left refl), tt)
 
-pub read_node-returns-in-1 : goal.read_node-returns-in-1
-read_node-returns-in-1 t c = c.read_literal.ensures ∙ sym (seen_literal _ _ _ _ _ _ c.if-levels-eq0.false (omega (arith, c.in_ok-there.ensures.left refl)) c.in-1.is)
+pub read_node-returns-in_err-read_literal-in-1 : goal.read_node-returns-in_err-read_literal-in-1
+read_node-returns-in_err-read_literal-in-1 t c =
+    let e : c.from_residual-in_err-read_literal-in-1.result ≡ Err c.in_err-read_literal-in-1.field-0.0 = search rules in
+    e ∙ sym c.in_err-read_literal-in-1.was ∙ c.read_literal.ensures ∙ sym (seen_literal _ _ _ _ _ _ c.if-levels-eq0.false (omega (arith, c.in_ok-there.ensures.left refl)) c.in-1.is)
+
+pub read_node-returns-in_ok-read_literal-in-1 : goal.read_node-returns-in_ok-read_literal-in-1
+read_node-returns-in_ok-read_literal-in-1 t c =
+    sym c.in_ok-read_literal-in-1.was ∙ c.read_literal.ensures ∙ sym (seen_literal _ _ _ _ _ _ c.if-levels-eq0.false (omega (arith, c.in_ok-there.ensures.left refl)) c.in-1.is)
 
 pub read_node-returns-in-2 : goal.read_node-returns-in-2
 read_node-returns-in-2 t c = c.read_reference.ensures ∙ sym (seen_reference _ _ _ _ _ _ c.if-levels-eq0.false (omega (arith, c.in_ok-there.ensures.left refl)) c.in-2.is)
@@ -67,11 +73,18 @@ pub read_operands-read_node-requires-then-two : goal.read_operands-read_node-req
 read_operands-read_node-requires-then-two t c =
     (omega (arith, c.in_ok-there.ensures.left refl, read_past _ _ _ _ _ _ _ (omega (arith, c.in_ok-there.ensures.left refl)) (sym c.in_ok-next.was ∙ c.read_node.ensures)), tt)
 
+pub read_operands-returns-in_err-read_node : goal.read_operands-returns-in_err-read_node
+read_operands-returns-in_err-read_node t c =
+    let e : c.from_residual-in_err-read_node.result ≡ Err c.in_err-read_node.field-0.0 = search rules in
+    e ∙ sym c.in_err-read_node.was ∙ c.read_node-then-two.ensures
+    ∙ operator_two _ _ _ _ (omega (arith, c.in_ok-there.ensures.left refl)) _ c.known_operator.ensures (not-false _ c.if-not-known_operator.false-raw) _ c.read_node.ensures _ c.in_ok-next.was c.if-two.true
+
 pub read_operands-returns-then-two : goal.read_operands-returns-then-two
 read_operands-returns-then-two t c =
-    c.read_node-then-two.ensures
+    sym c.in_ok-read_node.was ∙ c.read_node-then-two.ensures
     ∙ operator_two _ _ _ _ (omega (arith, c.in_ok-there.ensures.left refl)) _ c.known_operator.ensures (not-false _ c.if-not-known_operator.false-raw) _ c.read_node.ensures _ c.in_ok-next.was c.if-two.true
 
 pub read_operands-returns : goal.read_operands-returns
 read_operands-returns t c =
-    operator_one _ _ _ _ (omega (arith, c.in_ok-there.ensures.left refl)) _ c.known_operator.ensures (not-false _ c.if-not-known_operator.false-raw) _ c.read_node.ensures _ c.in_ok-next.was c.if-two.false
+    sym c.in_ok-next.was ∙ c.read_node.ensures
+    ∙ operator_one _ _ _ _ (omega (arith, c.in_ok-there.ensures.left refl)) _ c.known_operator.ensures (not-false _ c.if-not-known_operator.false-raw) c.if-two.false
