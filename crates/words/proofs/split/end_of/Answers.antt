@@ -19,6 +19,7 @@ loop-i-preserved c =
 pub returns : goal.returns
 returns c =
     let s = c.args in
-    elim (le_or_lt (length s.s.now) s.from)
-      [ inl h ↦ omega (arith, c.max.ensures, part_none s.end s.s.now s.from h)
-      | inr h ↦ omega (arith, c.max.ensures, c.loop-i.auto.i-end, part_none s.end s.s.now c.loop-i.i (omega arith)) ]
+    elim (le_or_lt (length s.s.now) s.from) [
+      | inl h ↦ omega (arith, c.max.ensures, part_none s.end s.s.now s.from h)
+      | inr h ↦ omega (arith, c.max.ensures, c.loop-i.auto.i-end, part_none s.end s.s.now c.loop-i.i (omega arith))
+    ]
